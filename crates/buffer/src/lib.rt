@@ -1,0 +1,1 @@
+// Bytes in lent slices: see specs/ for the definitions that every other crate shares.

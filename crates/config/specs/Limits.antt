@@ -1,0 +1,37 @@
+-- The limits that document 01 sets, each stated once. Assumes nothing: these are definitions.
+use Prim.Native.Nat.{ℕ, _*_, _^_}
+
+-- the largest size (keys of the whole cache) in the settings; the smallest is 1
+abbrev pub maxSize : ℕ
+maxSize = 65536
+
+-- the largest arena, 2^31 bytes
+abbrev pub maxArena : ℕ
+maxArena = 2147483648
+
+-- the smallest number of arena bytes for each shard
+abbrev pub minShardBytes : ℕ
+minShardBytes = 64
+
+-- commands of a call record, and arguments of a command
+abbrev pub maxCommands : ℕ
+maxCommands = 1024
+
+abbrev pub maxArguments : ℕ
+maxArguments = 1024
+
+-- bytes of one argument of a call record
+abbrev pub maxArgument : ℕ
+maxArgument = 65535
+
+-- bytes of a key given to a single call, or kept in arena or plan
+abbrev pub maxKey : ℕ
+maxKey = 65535
+
+-- 16 MiB: a call record; a command key or a value of a single call; replies, a push, a stored value
+abbrev pub maxBytes : ℕ
+maxBytes = 16777216
+
+-- how deep a RESP3 value nests, the outermost counting 1
+abbrev pub maxDepth : ℕ
+maxDepth = 16
