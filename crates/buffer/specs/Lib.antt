@@ -1,2 +1,5 @@
 pub mod Cases
+pub mod Field
+pub mod Lists
+pub mod Part
 pub mod Same
