@@ -1,12 +1,12 @@
 -- Numbers as little-endian fields of w bytes: how they are written (`le`) and read (`readLe`), with each law once for every width.
 -- Assumes nothing.
 use mathlib.Core.Path.{_≡_, refl, ap, ap₂, _∙_, sym}
-use mathlib.Core.List.{List, [], _∷_, _++_}
+use mathlib.Core.List.{[], _∷_, _++_}
 use Prim.Native.Nat.{ℕ, zero, suc, _+_, _*_, _/_, _%_, _^_, _≤_, _<_}
 use native.Mathlib.Omega.{arith}
 use native.Mathlib.Nat.{add-zero, zero-add, mul-assoc, pow-zero, pow-suc, pow-succ', suc-add, div-one, div-div-eq-div-mul, mod-add-div}
 use native.Mathlib.Numerals.{add-one}
-use lib.ListN.{length, getD, take, drop, set, length-append}
+use lib.ListN.{length, getD, take, drop}
 use lib.Seq.{getD-append-add, drop-cons, length-take-le}
 use Rattle.buffer.specs.Same.{Bytes}
 use Rattle.buffer.specs.Part.{part, put, getD-part, part-put-before, part-put-after}
@@ -45,6 +45,7 @@ Octets s = (i : ℕ) → getD s i 0 < 256
 
 -- ---- lengths and bounds
 
+-- a field of w bytes has w bytes
 pub length-le : (w n : ℕ) → length (le w n) ≡ w
 unfolding le
 length-le zero n = refl

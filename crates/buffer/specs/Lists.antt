@@ -1,11 +1,11 @@
 -- Laws of lists that the kit's library lacks: parts of parts, lists that agree, zeros and other repeats. For every element type.
 -- Assumes nothing.
 use mathlib.Core.Path.{_≡_, refl, ap, _∙_, sym}
-use mathlib.Core.List.{List, [], _∷_, _++_, append-assoc}
-use Prim.Native.Nat.{ℕ, zero, suc, _+_, _-_, _≤_, _<_}
+use mathlib.Core.List.{List, [], _∷_, _++_}
+use Prim.Native.Nat.{ℕ, zero, suc, _+_, _-_, _≤_}
 use native.Mathlib.Omega.{arith}
 use native.Mathlib.Nat.{zero-add, suc-add}
-use lib.ListN.{length, getD, take, drop, replicate, length-append, length-replicate, replicate-append-replicate}
+use lib.ListN.{length, getD, take, drop, replicate, length-replicate, replicate-append-replicate}
 use lib.Seq.{take-nil, take-at, drop-at, take-append-add, drop-append-add, getD-drop}
 
 module _ {ℓ} {A : Type ℓ} where
@@ -42,10 +42,3 @@ module _ {ℓ} {A : Type ℓ} where
       let e : m + (z - m) ≡ z = omega arith in
       let r : replicate m a ++ replicate (z - m) a ≡ replicate z a = replicate-append-replicate m (z - m) a ∙ ap (λ (k : ℕ). replicate k a) e in
       ap (drop m) (sym r) ∙ drop-at (replicate m a) (replicate (z - m) a) m (length-replicate m a)
-
-  -- a front of a repeat is a repeat
-  pub take-replicate : (m z : ℕ) (a : A) → m ≤ z → take m (replicate z a) ≡ replicate m a
-  take-replicate m z a h =
-      let e : m + (z - m) ≡ z = omega arith in
-      let r : replicate m a ++ replicate (z - m) a ≡ replicate z a = replicate-append-replicate m (z - m) a ∙ ap (λ (k : ℕ). replicate k a) e in
-      ap (take m) (sym r) ∙ take-at (replicate m a) (replicate (z - m) a) m (length-replicate m a)

@@ -1,10 +1,10 @@
 -- Parts of a list, read (`part`) and replaced (`put`), and how the two meet. For every element type. Assumes nothing.
 use mathlib.Core.Path.{_≡_, refl, ap, _∙_, sym}
-use mathlib.Core.List.{List, [], _∷_, _++_, append-assoc}
-use Prim.Native.Nat.{ℕ, zero, suc, _+_, _-_, _≤_, _<_}
+use mathlib.Core.List.{List, _++_, append-assoc}
+use Prim.Native.Nat.{ℕ, _+_, _-_, _≤_, _<_}
 use native.Mathlib.Omega.{arith}
 use lib.ListN.{length, getD, take, drop, length-append, length-take, length-drop, take-append-drop}
-use lib.Seq.{take-length, take-at, drop-at, take-add, take-take, take-append-le, drop-append-le, drop-drop, getD-take, getD-drop, length-take-le}
+use lib.Seq.{take-all, take-at, drop-at, take-add, take-take, take-append-le, drop-append-le, drop-drop, getD-take, getD-drop, length-take-le}
 use Rattle.buffer.specs.Lists.{drop-take, take-past, drop-past}
 
 -- the n elements of s at `at`
@@ -18,18 +18,20 @@ put s at bs = take at s ++ (bs ++ drop (at + length bs) s)
 module _ {ℓ} {A : Type ℓ} where
   -- ---- parts
 
+  -- a part within a list has its length
   pub length-part : (s : List A) (at n : ℕ) → at + n ≤ length s → length (part s at n) ≡ n
   unfolding part
   length-part s at n h = length-take-le n (drop at s) (omega (arith, length-drop at s))
 
+  -- an element of a part
   pub getD-part : (s : List A) (at n i : ℕ) (d : A) → i < n → getD (part s at n) i d ≡ getD s (at + i) d
   unfolding part
   getD-part s at n i d h = getD-take n (drop at s) i d h ∙ getD-drop at s i d
 
-  -- a list is the part that is as long as it
-  pub part-all : (s : List A) → part s 0 (length s) ≡ s
+  -- a part that reaches to the end is what is left there
+  pub part-rest : (s : List A) (at n : ℕ) → length s ≤ at + n → part s at n ≡ drop at s
   unfolding part
-  part-all s = take-length s
+  part-rest s at n h = take-all n (drop at s) (omega (arith, length-drop at s))
 
   -- a part of a part
   pub part-part : (s : List A) (at n i m : ℕ) → i + m ≤ n → part (part s at n) i m ≡ part s (at + i) m
@@ -44,15 +46,24 @@ module _ {ℓ} {A : Type ℓ} where
   unfolding part
   part-add s at m n = cc (take-add m n (drop at s), drop-drop m at s)
 
+  -- what stands from a place on is a part and what follows it
+  pub drop-part : (s : List A) (at n : ℕ) → drop at s ≡ part s at n ++ drop (at + n) s
+  unfolding part
+  drop-part s at n = cc (take-append-drop n (drop at s), drop-drop n at s)
+
   -- a list around one of its parts
   pub around-part : (s : List A) (at n : ℕ) → s ≡ take at s ++ (part s at n ++ drop (at + n) s)
-  unfolding part
-  around-part s at n = cc (take-append-drop at s, take-append-drop n (drop at s), drop-drop n at s)
+  around-part s at n = cc (take-append-drop at s, drop-part s at n)
 
   -- the part that follows a front
   pub part-at : (X Y Z : List A) (at n : ℕ) → length X ≡ at → length Y ≡ n → part (X ++ (Y ++ Z)) at n ≡ Y
   unfolding part
   part-at X Y Z at n x y = cc (drop-at X (Y ++ Z) at x, take-at Y Z n y)
+
+  -- where X and then R stand from `at` on, X is the part there and R is what follows it
+  pub part-drop : (s X R : List A) (at n : ℕ) → drop at s ≡ X ++ R → length X ≡ n → (part s at n ≡ X) × (drop (at + n) s ≡ R)
+  unfolding part
+  part-drop s X R at n e l = (cc (take-at X R n l), cc (drop-at X R n l, drop-drop n at s))
 
   -- a part past a front is a part of the rest
   pub part-past : (X Y : List A) (at k n : ℕ) → length X ≡ at → part (X ++ Y) (at + k) n ≡ part Y k n
@@ -73,6 +84,7 @@ module _ {ℓ} {A : Type ℓ} where
 
   -- ---- parts replaced
 
+  -- what is put within a list leaves its length
   pub length-put : (s bs : List A) (at : ℕ) → at + length bs ≤ length s → length (put s at bs) ≡ length s
   unfolding put
   length-put s bs at h = simp (length-append, length-drop, length-take) (omega arith)
@@ -132,7 +144,7 @@ module _ {ℓ} {A : Type ℓ} where
   part-put-inside s bs at i n h l =
       part-past (take at s) (bs ++ drop (at + length bs) s) at i n (length-take-le at s h) ∙ part-within bs (drop (at + length bs) s) i n l
 
-  -- parts before and after stay
+  -- a part before stays
   pub part-put-before : (s bs : List A) (at i n : ℕ) → i + n ≤ at → at ≤ length s → part (put s at bs) i n ≡ part s i n
   unfolding put
   part-put-before s bs at i n h l =
@@ -140,6 +152,7 @@ module _ {ℓ} {A : Type ℓ} where
       let a : part (take at s ++ (bs ++ drop (at + length bs) s)) i n ≡ part (take at s) i n = part-within (take at s) (bs ++ drop (at + length bs) s) i n (omega arith) in
       cc (part-within (take at s) (drop at s) i n (omega arith), take-append-drop at s)
 
+  -- what follows stays
   pub drop-put-after : (s bs : List A) (at i : ℕ) → at + length bs ≤ i → at ≤ length s → drop i (put s at bs) ≡ drop i s
   unfolding put
   drop-put-after s bs at i h l =
@@ -150,9 +163,11 @@ module _ {ℓ} {A : Type ℓ} where
       drop-past (take at s ++ bs) (drop (at + length bs) s) (at + length bs) k t in
       cc (append-assoc (take at s) bs (drop (at + length bs) s), drop-drop k (at + length bs) s)
 
+  -- what stands before stays
   pub take-put-before : (s bs : List A) (at i : ℕ) → i ≤ at → at ≤ length s → take i (put s at bs) ≡ take i s
   take-put-before s bs at i h l = cc (part-front (put s at bs) i, part-front s i, part-put-before s bs at 0 i (omega arith) l)
 
+  -- a part after stays
   pub part-put-after : (s bs : List A) (at i n : ℕ) → at + length bs ≤ i → at ≤ length s → part (put s at bs) i n ≡ part s i n
   unfolding part
   part-put-after s bs at i n h l = rw (drop-put-after s bs at i h l)

@@ -1,8 +1,10 @@
 -- Byte strings as lists of numbers, and the test whether two are equal, with its two laws. Assumes nothing.
-use mathlib.Core.Path.{_≡_, refl, ap₂}
+use mathlib.Core.Path.{_≡_, refl, ap, ap₂}
 use Prim.Native.Nat.{ℕ}
 use mathlib.Core.Bool.{Bool, true, false, cond, false≢true}
-use mathlib.Core.List.{List, [], _∷_}
+use mathlib.Core.List.{List, [], _∷_, _++_}
+use native.Mathlib.Omega.{arith}
+use lib.ListN.{length}
 use lib.Dec.{eqb}
 use Rattle.buffer.specs.Cases.{byTest, eqb-yes, eqb-same}
 
@@ -33,3 +35,15 @@ same-eq (x ∷ xs) (y ∷ ys) e =
     byTest (eqb x y)
     (λ p. ap₂ _∷_ (eqb-yes x y p) (same-eq xs ys (rw p at e)))
     (λ p. absurd (false≢true (rw p at e)))
+
+-- byte strings in two pieces each, the first ones as long, are the same where their pieces are
+pub same-append : (a b c d : Bytes) → length a ≡ length c → same (a ++ b) (c ++ d) ≡ cond (same a c) (same b d) false
+unfolding same
+same-append [] b [] d l = refl
+same-append [] b (y ∷ c) d l = absurd (omega arith)
+same-append (x ∷ a) b [] d l = absurd (omega arith)
+same-append (x ∷ a) b (y ∷ c) d l = byTest (eqb x y) (λ p. rw p (same-append a b c d (omega arith))) (λ p. rw p)
+
+-- byte strings of other lengths are not the same
+pub same-length : (a b : Bytes) → (length a ≡ length b → ⊥) → same a b ≡ false
+same-length a b n = byTest (same a b) (λ p. absurd (n (ap length (same-eq a b p)))) (λ p. p)

@@ -4,8 +4,12 @@
 ghost use mathlib.Core.Path.{_≡_};
 ghost use Prim.Native.Nat.{_+_, _-_, _≤_, _<_};
 ghost use lib.ListN.{length};
+ghost use lib.Dec.{eqb};
 ghost use Rattle.buffer.specs.Field.{le16, le32, le64, read16, read32, read64};
+ghost use Rattle.buffer.specs.Move.{moved, exchanged, resized, spliced, rotated};
 ghost use Rattle.buffer.specs.Part.{part, put};
+ghost use Rattle.buffer.specs.Same.{same};
+ghost use Rattle.buffer.specs.Zero.{allZero, zeroed};
 
 // A byte as a number.
 fn wide(x: u8) -> u16
@@ -69,4 +73,204 @@ pub fn write_u64(s: &mut [u8], at: usize, n: u64)
 {
     write_u32(s, at, (n % 4294967296) as u32);
     write_u32(s, at + 4, (n / 4294967296) as u32);
+}
+
+// Zero where a and b have the same bytes from `from` up to `to`. The loop has no exit, so that it compiles to vector code.
+fn differ(a: &[u8], b: &[u8], from: usize, to: usize) -> u8
+    requires { ⌜ (from ≤ to) × (to ≤ length (now a)) × (to ≤ length (now b)) ⌝ }
+    ensures { λ r. ⌜ eqb r 0 ≡ same (part (now (a .entry)) from (to - from)) (part (now (b .entry)) from (to - from)) ⌝ }
+{
+    let mut x: u8 = 0;
+    let mut i = from;
+    while i < to {
+        x = x | (a[i] ^ b[i]);
+        i += 1;
+    }
+    x
+}
+
+// Whether a and b have the same bytes: 64 at a time, with an exit after each block.
+pub fn same(a: &[u8], b: &[u8]) -> bool
+    ensures { λ r. ⌜ r ≡ same (now (a .entry)) (now (b .entry)) ⌝ }
+{
+    if a.len() != b.len() {
+        return false;
+    }
+    let n = a.len();
+    let mut i = 0;
+    while 64 <= n - i {
+        if differ(a, b, i, i + 64) != 0 {
+            return false;
+        }
+        i += 64;
+    }
+    differ(a, b, i, n) == 0
+}
+
+// Whether the bytes of s at `at` are those of key.
+pub fn same_at(s: &[u8], at: usize, key: &[u8]) -> bool
+    requires { ⌜ at + length (now key) ≤ length (now s) ⌝ }
+    ensures { λ r. ⌜ r ≡ same (part (now (s .entry)) at (length (now (key .entry)))) (now (key .entry)) ⌝ }
+{
+    let end = at + key.len();
+    same(&s[at..end], key)
+}
+
+// Zero where s has only zeros from `from` up to `to`. The loop has no exit, so that it compiles to vector code.
+fn or_range(s: &[u8], from: usize, to: usize) -> u8
+    requires { ⌜ (from ≤ to) × (to ≤ length (now s)) ⌝ }
+    ensures { λ r. ⌜ eqb r 0 ≡ allZero (part (now (s .entry)) from (to - from)) ⌝ }
+{
+    let mut x: u8 = 0;
+    let mut i = from;
+    while i < to {
+        x = x | s[i];
+        i += 1;
+    }
+    x
+}
+
+// Whether s has only zeros from `from` up to `to`: 64 bytes at a time, with an exit after each block.
+pub fn all_zero(s: &[u8], from: usize, to: usize) -> bool
+    requires { ⌜ (from ≤ to) × (to ≤ length (now s)) ⌝ }
+    ensures { λ r. ⌜ r ≡ allZero (part (now (s .entry)) from (to - from)) ⌝ }
+{
+    let mut i = from;
+    while 64 <= to - i {
+        if or_range(s, i, i + 64) != 0 {
+            return false;
+        }
+        i += 64;
+    }
+    or_range(s, i, to) == 0
+}
+
+// Zeros from `from` up to `to`; none where `to` is not above `from`.
+pub fn fill_zero(s: &mut [u8], from: usize, to: usize)
+    requires { ⌜ to ≤ length (now s) ⌝ }
+    ensures { λ _. ⌜ now (s .exit) ≡ zeroed (now (s .entry)) from to ⌝ }
+{
+    let mut i = from;
+    while i < to {
+        s[i] = 0;
+        i += 1;
+    }
+}
+
+// Copies src to s at `at`.
+pub fn copy_to(s: &mut [u8], at: usize, src: &[u8])
+    requires { ⌜ at + length (now src) ≤ length (now s) ⌝ }
+    ensures { λ _. ⌜ now (s .exit) ≡ put (now (s .entry)) at (now (src .entry)) ⌝ }
+{
+    bytes::copy(src, &mut s[at..]);
+}
+
+// Copies the n bytes at `from` to `to`, which is no higher: the first byte first.
+fn move_down(s: &mut [u8], from: usize, to: usize, n: usize)
+    requires { ⌜ (to ≤ from) × (from + n ≤ length (now s)) ⌝ }
+    ensures { λ _. ⌜ now (s .exit) ≡ moved (now (s .entry)) from to n ⌝ }
+{
+    let mut i = 0;
+    while i < n {
+        s[to + i] = s[from + i];
+        i += 1;
+    }
+}
+
+// Copies the n bytes at `from` to `to`, which is no lower: the last byte first.
+fn move_up(s: &mut [u8], from: usize, to: usize, n: usize)
+    requires { ⌜ (from ≤ to) × (to + n ≤ length (now s)) ⌝ }
+    ensures { λ _. ⌜ now (s .exit) ≡ moved (now (s .entry)) from to n ⌝ }
+{
+    let mut k = n;
+    while 0 < k {
+        k -= 1;
+        s[to + k] = s[from + k];
+    }
+}
+
+// Copies the n bytes at `from` to `to`, right also where the two ranges overlap.
+pub fn copy_within(s: &mut [u8], from: usize, to: usize, n: usize)
+    requires { ⌜ (from + n ≤ length (now s)) × (to + n ≤ length (now s)) ⌝ }
+    ensures { λ _. ⌜ now (s .exit) ≡ moved (now (s .entry)) from to n ⌝ }
+{
+    if to <= from {
+        move_down(s, from, to, n);
+        return;
+    }
+    move_up(s, from, to, n);
+}
+
+// Makes room for n bytes in the place of those from `from` up to `to`: what follows up to `end` moves, and what is freed is zeroed.
+// The caller then writes the n bytes at `from` (`resized-put`).
+pub fn resize(s: &mut [u8], from: usize, to: usize, end: usize, n: usize)
+    requires { ⌜ (from ≤ to) × (to ≤ end) × (end ≤ length (now s)) × (from + n + (end - to) ≤ length (now s)) ⌝ }
+    ensures { λ _. ⌜ now (s .exit) ≡ resized (now (s .entry)) from to end n ⌝ }
+{
+    let next = from + n;
+    let rest = end - to;
+    copy_within(s, to, next, rest);
+    fill_zero(s, next + rest, end);
+}
+
+// Replaces the bytes from `from` up to `to` by bs: what follows up to `end` moves, and what is freed is zeroed.
+pub fn splice(s: &mut [u8], from: usize, to: usize, end: usize, bs: &[u8])
+    requires { ⌜ (from ≤ to) × (to ≤ end) × (end ≤ length (now s)) × (from + length (now bs) + (end - to) ≤ length (now s)) ⌝ }
+    ensures { λ _. ⌜ now (s .exit) ≡ spliced (now (s .entry)) from to end (now (bs .entry)) ⌝ }
+{
+    resize(s, from, to, end, bs.len());
+    copy_to(s, from, bs);
+}
+
+// Exchanges the n bytes at a with the n bytes at b, all of which are higher.
+fn exchange(s: &mut [u8], a: usize, b: usize, n: usize)
+    requires { ⌜ (a + n ≤ b) × (b + n ≤ length (now s)) ⌝ }
+    ensures { λ _. ⌜ now (s .exit) ≡ exchanged (now (s .entry)) a b n ⌝ }
+{
+    let mut i = 0;
+    while i < n {
+        let x = s[a + i];
+        s[a + i] = s[b + i];
+        s[b + i] = x;
+        i += 1;
+    }
+}
+
+// What `rotate` does, by reversals: each range reversed, and then both as one. Right for all ranges, and slow for long ones.
+fn turn(s: &mut [u8], from: usize, mid: usize, end: usize)
+    requires { ⌜ (from ≤ mid) × (mid ≤ end) × (end ≤ length (now s)) ⌝ }
+    ensures { λ _. ⌜ now (s .exit) ≡ rotated (now (s .entry)) from mid end ⌝ }
+{
+    bytes::reverse(s, from, mid);
+    bytes::reverse(s, mid, end);
+    bytes::reverse(s, from, end);
+}
+
+// The smaller of two numbers.
+fn smaller(p: usize, q: usize) -> usize
+    ensures { λ r. ⌜ (r ≤ p) × (r ≤ q) ⌝ }
+{
+    if p < q { p } else { q }
+}
+
+// Brings the bytes from `mid` up to `end` before those from `from` up to `mid`. While both ranges are long, the shorter one is exchanged
+// with the far end of the other, where it stays, and what is left is rotated.
+pub fn rotate(s: &mut [u8], from: usize, mid: usize, end: usize)
+    requires { ⌜ (from ≤ mid) × (mid ≤ end) × (end ≤ length (now s)) ⌝ }
+    ensures { λ _. ⌜ now (s .exit) ≡ rotated (now (s .entry)) from mid end ⌝ }
+{
+    let mut f = from;
+    let mut e = end;
+    while 32 <= smaller(mid - f, e - mid) {
+        if mid - f <= e - mid {
+            let n = mid - f;
+            e -= n;
+            exchange(s, f, e, n);
+            continue;
+        }
+        let n = e - mid;
+        exchange(s, f, mid, n);
+        f += n;
+    }
+    turn(s, f, mid, e);
 }

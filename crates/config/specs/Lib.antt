@@ -1,1 +1,6 @@
 pub mod Limits
+pub mod Causes
+pub mod Wrap
+pub mod Config
+pub mod Laws
+pub mod Cases

@@ -35,3 +35,11 @@ maxBytes = 16777216
 -- how deep a RESP3 value nests, the outermost counting 1
 abbrev pub maxDepth : ℕ
 maxDepth = 16
+
+-- the largest number of a mode: 0 is All, 1 is opt-in
+abbrev pub maxMode : ℕ
+maxMode = 1
+
+-- the number of shards of a cache of that many keys or more; a smaller one has one shard
+abbrev pub maxShards : ℕ
+maxShards = 32

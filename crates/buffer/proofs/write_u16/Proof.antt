@@ -2,7 +2,7 @@
 use borrow.Author.Needs.{needs}
 use native.Mathlib.Omega.{arith}
 use lib.ListN.{length-set}
-use Rattle.buffer.proofs.Laws.{two-stores}
+use Rattle.buffer.proofs.Fields.{two-stores}
 use Rattle.buffer.proofs.write_u16.Statement.{statement}
 use Rattle.buffer.proofs.write_u16.Tie as tie
 

@@ -1,6 +1,6 @@
 -- `buffer::write_u64` meets its contract: two halves write a field (`two-halves`). Assumes nothing.
 use borrow.Author.Needs.{needs}
-use Rattle.buffer.proofs.Laws.{two-halves}
+use Rattle.buffer.proofs.Fields.{two-halves}
 use native.Mathlib.Omega.{arith}
 use Rattle.buffer.proofs.write_u64.Statement.{statement}
 use Rattle.buffer.proofs.write_u64.Tie as tie

@@ -1,0 +1,58 @@
+// Writes those of the lines of its input that are names of cacheable commands, and behind a command of several keys the one that asks
+// for one of them. The input is every name that `command_properties` knows, whatever it says of it, and then near misses.
+use commands::MultiKey;
+use libc::STDIN_FILENO;
+use libc::STDOUT_FILENO;
+ghost use Prim.Native.Nat.{_≤_};
+ghost use lib.ListN.{length};
+
+// A line of the output, or none.
+fn show(word: &[u8]) {
+    if commands::is_cachable_cmd(word) {
+        io::write_all(STDOUT_FILENO, word);
+        match commands::is_multi_key(word) {
+            MultiKey::Mget => {
+                io::write_all(STDOUT_FILENO, b" GET");
+            }
+            MultiKey::JsonMget => {
+                io::write_all(STDOUT_FILENO, b" JSON.GET");
+            }
+            MultiKey::None => {}
+        }
+        io::write_all(STDOUT_FILENO, b"\n");
+    }
+}
+
+// Where the line that starts at at ends.
+fn line_end(s: &[u8], at: usize) -> usize
+    requires { ⌜ at ≤ length (now s) ⌝ }
+    ensures { λ r. ⌜ (at ≤ r) × (r ≤ length (now (s .entry))) ⌝ }
+{
+    let mut i = at;
+    while i < s.len() {
+        if s[i] == b'\n' {
+            return i;
+        }
+        i += 1;
+    }
+    i
+}
+
+// A line of the output for each line that has one.
+fn show_lines(s: &[u8]) {
+    let mut at = 0;
+    while at < s.len() {
+        let end = line_end(s, at);
+        show(&s[at..end]);
+        if end == s.len() {
+            return;
+        }
+        at = end + 1;
+    }
+}
+
+fn main() {
+    let mut input = io::buffer();
+    let n = io::read_full(STDIN_FILENO, &mut input);
+    show_lines(&input[..n]);
+}

@@ -1,0 +1,62 @@
+-- Induction on a number's digits, and how many digits a number has. Assumes nothing.
+use mathlib.Core.Path.{_≡_}
+use Prim.Native.Nat.{ℕ, zero, suc, _+_, _/_, _<_, _≤_, _^_}
+use native.Mathlib.Omega.{arith}
+use lib.Dec.{ltb}
+use lib.ListN.{length}
+use borrow.Author.Tests.{ltb-true, ltb-false}
+use Rattle.buffer.specs.Cases.{byTest}
+use Rattle.decimal.specs.Digits.{digits, count-one, count-more}
+
+-- what holds of every number below ten, and of a number where it holds of a tenth of it, holds of all
+pub digits-cases : (P : ℕ → Type 0) → ((n : ℕ) → n < 10 → P n) → ((n : ℕ) → 10 ≤ n → P (n / 10) → P n) → (n : ℕ) → P n
+digits-cases P small big n = go (suc n) n (omega arith)
+  where
+    go : (k n : ℕ) → n < k → P n
+    go zero n h = absurd (omega arith)
+    go (suc k) n h =
+        byTest (ltb n 10)
+        (λ e. small n (ltb-true n 10 e))
+        (λ e. let l = ltb-false n 10 e in big n l (go k (n / 10) (omega arith)))
+
+-- every number has a digit
+pub count-pos : (n : ℕ) → 0 < length (digits n)
+count-pos = digits-cases (λ n. 0 < length (digits n)) (λ n h. omega (arith, count-one n h)) (λ n h ih. omega (arith, count-more n h))
+
+-- a number below 10^(k + 1) has at most k + 1 digits
+pub count-below : (k n : ℕ) → n < 10 ^ suc k → length (digits n) ≤ suc k
+count-below zero n h = omega (arith, count-one n h)
+count-below (suc k) n h =
+    byTest (ltb n 10)
+    (λ e. omega (arith, count-one n (ltb-true n 10 e)))
+    (λ e.
+    let m = count-more n (ltb-false n 10 e) in
+    let r = count-below k (n / 10) (omega arith) in
+    omega arith)
+
+-- a number of 64 bits has at most 20 digits
+pub count-max : (n : ℕ) → n < 2 ^ 64 → length (digits n) ≤ 20
+count-max n h = count-below 19 n (omega arith)
+
+-- a power of ten is no 0
+ten-pos : (k : ℕ) → 0 < 10 ^ k
+ten-pos zero = omega arith
+ten-pos (suc k) = let r = ten-pos k in omega arith
+
+-- a number from 10^k up to below 10^(k + 1) has k + 1 digits
+pub count-is : (k n : ℕ) → 10 ^ k ≤ n → n < 10 ^ suc k → length (digits n) ≡ suc k
+count-is zero n l h = count-one n h
+count-is (suc k) n l h =
+    let m = count-more n (omega (arith, ten-pos k)) in
+    let r = count-is k (n / 10) (omega arith) (omega arith) in
+    omega arith
+
+-- from ten thousand on there are four digits more than in the ten thousandth part
+pub count-four : (n : ℕ) → 10000 ≤ n → length (digits n) ≡ length (digits (n / 10000)) + 4
+count-four n h =
+    let a = count-more n (omega arith) in
+    let b = count-more (n / 10) (omega arith) in
+    let c = count-more (n / 10 / 10) (omega arith) in
+    let d = count-more (n / 10 / 10 / 10) (omega arith) in
+    let e : n / 10 / 10 / 10 / 10 ≡ n / 10000 = omega arith in
+    rw (← e) (omega arith)

@@ -1,0 +1,8 @@
+pub mod Digits
+pub mod DigitLaws
+pub mod Places
+pub mod Read
+pub mod ReadLaws
+pub mod NumLaw
+pub mod NumSound
+pub mod Cases

@@ -1,0 +1,4 @@
+pub mod Sip
+pub mod Shard
+pub mod Laws
+pub mod Cases

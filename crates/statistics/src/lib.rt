@@ -1,0 +1,65 @@
+// The counts of hits, misses and invalidated entries, by value: they wrap at 64 bits (specs/Counts.antt). After statistics.rs, whose
+// atomics are here a state that goes in and comes back.
+ghost use mathlib.Core.Path.{_≡_};
+ghost use Rattle.statistics.specs.Counts.{moreHit, moreMiss, moreInvalidate, reading};
+
+// The counts as they are kept.
+#[repr(C)]
+pub struct Statistics {
+    pub hit: u64,
+    pub miss: u64,
+    pub invalidate: u64,
+}
+
+// The counts as they are read.
+#[repr(C)]
+pub struct CacheStatistics {
+    pub hit: u64,
+    pub miss: u64,
+    pub invalidate: u64,
+}
+
+impl Statistics {
+    pub fn increase_hit(self, val: u64) -> Statistics
+        ensures { λ r. ⌜ r ≡ moreHit self val ⌝ }
+    {
+        Statistics {
+            hit: std::num::wrapping_add_u64(self.hit, val),
+            miss: self.miss,
+            invalidate: self.invalidate,
+        }
+    }
+
+    pub fn increase_miss(self, val: u64) -> Statistics
+        ensures { λ r. ⌜ r ≡ moreMiss self val ⌝ }
+    {
+        Statistics {
+            hit: self.hit,
+            miss: std::num::wrapping_add_u64(self.miss, val),
+            invalidate: self.invalidate,
+        }
+    }
+
+    pub fn increase_invalidate(self, val: u64) -> Statistics
+        ensures { λ r. ⌜ r ≡ moreInvalidate self val ⌝ }
+    {
+        Statistics {
+            hit: self.hit,
+            miss: self.miss,
+            invalidate: std::num::wrapping_add_u64(self.invalidate, val),
+        }
+    }
+}
+
+impl CacheStatistics {
+    // The counts at this moment.
+    pub fn from(value: Statistics) -> CacheStatistics
+        ensures { λ r. ⌜ r ≡ reading value ⌝ }
+    {
+        CacheStatistics {
+            hit: value.hit,
+            miss: value.miss,
+            invalidate: value.invalidate,
+        }
+    }
+}

@@ -1,0 +1,127 @@
+//! What the sequences came to, so that one sees that hits, evictions, epochs, expiries and updates were common.
+
+use calls::{Answer, Call, State};
+use std::collections::BTreeMap;
+
+/// Counts of events by name.
+#[derive(Default)]
+pub struct Coverage(BTreeMap<&'static str, u64>);
+
+/// Every event that the comparison means to meet.
+pub const EVENTS: &[&str] = &[
+    "calls",
+    "plan",
+    "resolve",
+    "push",
+    "lookup",
+    "store",
+    "invalidate",
+    "new epoch",
+    "hit",
+    "miss",
+    "dropped entries",
+    "evicted or replaced",
+    "updated in place",
+    "items with several entries",
+    "refused stores",
+    "cause 1",
+    "cause 2",
+    "cause 4",
+    "cause 5",
+    "cause 6",
+    "cause 7",
+    "cause 7 with stores",
+    "cause 8",
+    "cause 11",
+];
+
+impl Coverage {
+    /// Counts one call by its answer and the states around it.
+    pub fn count(&mut self, call: &Call, answer: &Answer, before: &State, after: &State) {
+        self.add("calls", 1);
+        self.add(kind(call), 1);
+        match answer {
+            Answer::Refused(refusal) => self.add(cause(refusal.cause), 1),
+            Answer::Resolved { refused, .. } => self.add("refused stores", *refused),
+            _ => {}
+        }
+        if *answer == Answer::Refused(calls::Refusal::number(7)) && before != after {
+            self.add("cause 7 with stores", 1);
+        }
+        self.add("hit", after.counts.hit.wrapping_sub(before.counts.hit));
+        self.add("miss", after.counts.miss.wrapping_sub(before.counts.miss));
+        self.add(
+            "dropped entries",
+            after
+                .counts
+                .invalidate
+                .wrapping_sub(before.counts.invalidate),
+        );
+        if matches!(call, Call::Store { .. } | Call::Resolve { .. }) {
+            self.stores(before, after);
+        }
+    }
+
+    fn stores(&mut self, before: &State, after: &State) {
+        for (old, new) in before.shards.iter().zip(&after.shards) {
+            for item in old {
+                match new
+                    .iter()
+                    .find(|other| other.key == item.key && other.epoch == item.epoch)
+                {
+                    None => self.add("evicted or replaced", 1),
+                    Some(other) if other != item => self.add("updated in place", 1),
+                    Some(_) => {}
+                }
+            }
+            let several = new.iter().filter(|item| item.entries.len() > 1).count();
+            self.add("items with several entries", several as u64);
+        }
+    }
+
+    fn add(&mut self, event: &'static str, times: u64) {
+        *self.0.entry(event).or_default() += times;
+    }
+
+    /// How often an event was met.
+    pub fn of(&self, event: &str) -> u64 {
+        self.0.get(event).copied().unwrap_or(0)
+    }
+
+    /// One line of all events.
+    pub fn summary(&self) -> String {
+        let parts: Vec<String> = EVENTS
+            .iter()
+            .map(|event| format!("{event} {}", self.of(event)))
+            .collect();
+        parts.join(", ")
+    }
+}
+
+fn kind(call: &Call) -> &'static str {
+    match call {
+        Call::Plan { .. } => "plan",
+        Call::Resolve { .. } => "resolve",
+        Call::Push { .. } => "push",
+        Call::Lookup { .. } => "lookup",
+        Call::Store { .. } => "store",
+        Call::Invalidate { .. } => "invalidate",
+        Call::NewEpoch => "new epoch",
+    }
+}
+
+fn cause(number: u8) -> &'static str {
+    match number {
+        1 => "cause 1",
+        2 => "cause 2",
+        3 => "cause 3",
+        4 => "cause 4",
+        5 => "cause 5",
+        6 => "cause 6",
+        7 => "cause 7",
+        8 => "cause 8",
+        9 => "cause 9",
+        10 => "cause 10",
+        _ => "cause 11",
+    }
+}

@@ -1,0 +1,201 @@
+//! The worked cases of document 01, for every party that there is.
+
+mod common;
+
+use calls::{Answer, Outcome, Refusal, resp};
+use common::*;
+
+#[test]
+fn shards_of_sizes_31_32_63_64() {
+    for (size, shape) in [(31, (1, 31)), (32, (32, 1)), (63, (32, 1)), (64, (32, 2))] {
+        let (shards, keys) = model::config::shards(size);
+        assert_eq!((shards as usize, keys as usize), shape);
+        #[cfg(feature = "reference")]
+        assert_eq!(
+            reference::Reference::setup(&setup(size), false).shape(),
+            shape
+        );
+    }
+}
+
+#[test]
+fn served_at_its_expiry_and_dropped_one_later() {
+    for mut party in parties(&setup(4)) {
+        answer(&mut *party, at(0), &store("k", "GETk", "$1\r\nx\r\n", 50));
+        let found = answer(&mut *party, at(50), &lookup("k", "GETk"));
+        assert_eq!(found, Answer::Hit(b"$1\r\nx\r\n".to_vec()));
+        assert_eq!(
+            answer(&mut *party, at(51), &lookup("k", "GETk")),
+            Answer::Miss
+        );
+        let state = party.state();
+        assert!(state.shards[0].is_empty());
+        assert_eq!(
+            (state.counts.hit, state.counts.miss, state.counts.invalidate),
+            (1, 1, 1)
+        );
+    }
+}
+
+#[test]
+fn json_mget_of_a_path_alone_is_an_empty_array() {
+    for mut party in parties(&setup(4)) {
+        let planned = answer(&mut *party, at(0), &plan(&["JSON.MGET k"]));
+        let outcomes = vec![Outcome::CachedAll(vec![])];
+        assert_eq!(
+            planned,
+            Answer::Planned {
+                sent: vec![],
+                responses: (0, 0),
+                outcomes
+            }
+        );
+        assert_eq!(
+            result(answer(&mut *party, at(0), &resolve(0, "*0\r\n"))),
+            "*1\r\n*0\r\n"
+        );
+    }
+}
+
+#[test]
+fn get_with_an_empty_key_is_cacheable_and_get_in_small_letters_is_not() {
+    for mut party in parties(&setup(4)) {
+        let Answer::Planned { outcomes, .. } =
+            answer(&mut *party, at(0), &plan(&["GET \"\"", "get a"]))
+        else {
+            panic!("planned");
+        };
+        assert!(matches!(&outcomes[0], Outcome::Single(missing) if missing.key.is_empty()));
+        assert_eq!(outcomes[1], Outcome::NotCacheable);
+    }
+}
+
+#[test]
+fn expiry_is_the_smaller_of_server_and_client() {
+    for (pttl, expiry) in [
+        ("1", 11),
+        ("0", 500),
+        ("-1", 500),
+        ("1000", 500),
+        ("9223372036854775807", 500),
+    ] {
+        for mut party in parties(&setup(4)) {
+            let now = calls::At {
+                default_ttl: 490,
+                ..at(10)
+            };
+            answer(&mut *party, now, &plan(&["GET k"]));
+            let replies = format!("*2\r\n:{pttl}\r\n$1\r\nx\r\n");
+            assert_eq!(
+                result(answer(&mut *party, now, &resolve(0, &replies))),
+                "*1\r\n$1\r\nx\r\n"
+            );
+            assert_eq!(only_item(&*party).expiry, expiry, "PTTL {pttl}");
+        }
+    }
+}
+
+#[test]
+fn two_waiting_keys_and_three_elements_take_three_pttls() {
+    for mut party in parties(&setup(4)) {
+        answer(&mut *party, at(0), &plan(&["MGET a b", "PING"]));
+        let replies = "*5\r\n*3\r\n:1\r\n:2\r\n:3\r\n:10\r\n:20\r\n:30\r\n+PONG\r\n";
+        let resolved = answer(&mut *party, at(0), &resolve(0, replies));
+        assert_eq!(result(resolved), "*2\r\n*2\r\n:1\r\n:2\r\n+PONG\r\n");
+    }
+}
+
+#[test]
+fn three_keys_and_two_elements_leave_the_third_place() {
+    for mut party in parties(&setup(4)) {
+        answer(&mut *party, at(0), &plan(&["MGET a b c"]));
+        let replies = "*4\r\n*2\r\n:1\r\n:2\r\n:10\r\n:20\r\n:30\r\n";
+        let resolved = answer(&mut *party, at(0), &resolve(0, replies));
+        assert_eq!(result(resolved), "*1\r\n*3\r\n:1\r\n:2\r\n_\r\n");
+    }
+}
+
+#[cfg(feature = "reference")]
+#[test]
+fn digits_of_9999_and_10000() {
+    assert_eq!(
+        (reference::countdigits(9999), reference::countdigits(10_000)),
+        (4, 5)
+    );
+    assert_eq!(
+        (
+            reference::countdigits(0),
+            reference::countdigits(usize::MAX)
+        ),
+        (1, 20)
+    );
+}
+
+#[test]
+fn key_3_command_6_value_7_bytes_take_64() {
+    let tight = |bytes: u64| calls::Setup {
+        arena: 16 + bytes,
+        ..setup(1)
+    };
+    let stored = store("key", "GETkey", "$1\r\nx\r\n", 9);
+    for mut party in parties(&tight(64)) {
+        assert_eq!(answer(&mut *party, at(0), &stored), Answer::Done);
+    }
+    for mut party in parties(&tight(63)) {
+        assert_eq!(
+            answer(&mut *party, at(0), &stored),
+            Answer::Refused(Refusal::number(11))
+        );
+        assert!(party.state().shards[0].is_empty());
+    }
+}
+
+#[test]
+fn depth_16_is_read_and_17_refused() {
+    let nested = |times| "*1\r\n".repeat(times) + "_\r\n";
+    assert!(resp::parse(nested(15).as_bytes()).is_some());
+    let mut model = model::Model::setup(&setup(4)).expect("a setup");
+    assert_eq!(
+        model.call(at(0), &store("k", "c", &nested(15), 9)),
+        Answer::Done
+    );
+    let refused = model.call(at(0), &store("k", "c", &nested(16), 9));
+    assert_eq!(refused, Answer::Refused(Refusal::number(6)));
+}
+
+#[test]
+fn the_bytes_to_send_for_get_a() {
+    for mut party in parties(&setup(4)) {
+        let now = calls::At {
+            default_ttl: 1_800_000,
+            ..at(0)
+        };
+        let planned = answer(&mut *party, now, &plan(&["GET a"]));
+        assert_eq!(
+            sent(&planned),
+            "*2\r\n$4\r\nPTTL\r\n$1\r\na\r\n*2\r\n$3\r\nGET\r\n$1\r\na\r\n"
+        );
+    }
+}
+
+/// Beyond the worked cases: a result is not read back, so it may nest deeper than 16.
+#[test]
+fn a_result_may_nest_18_deep() {
+    let deep = "*1\r\n".repeat(15) + "_\r\n";
+    for mut party in parties(&setup(4)) {
+        answer(&mut *party, at(0), &store("k", "GETk", &deep, 9));
+        let planned = answer(&mut *party, at(0), &plan(&["MGET k k"]));
+        let served = deep.as_bytes().to_vec();
+        let outcomes = vec![Outcome::CachedAll(vec![served.clone(), served])];
+        assert_eq!(
+            planned,
+            Answer::Planned {
+                sent: vec![],
+                responses: (0, 0),
+                outcomes
+            }
+        );
+        let resolved = answer(&mut *party, at(0), &resolve(0, "*0\r\n"));
+        assert_eq!(result(resolved), format!("*1\r\n*2\r\n{deep}{deep}"));
+    }
+}

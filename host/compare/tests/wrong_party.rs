@@ -1,0 +1,99 @@
+//! The frame notices parties that are wrong in one thing, and shows few calls that tell.
+
+use calls::{Answer, At, Call, Setup, State};
+use compare::coverage::Coverage;
+use compare::generate::{Limits, Sequence};
+use compare::party::Party;
+use compare::text::read;
+use model::Model;
+
+/// A model with a fault.
+struct Wrong {
+    model: Model,
+    fault: Fault,
+}
+
+#[derive(Clone, Copy, PartialEq)]
+enum Fault {
+    DropsAtExpiry,
+    CountsNoMiss,
+    OldestFirst,
+    OneByteLess,
+    NeverRefuses,
+    Panics,
+}
+
+impl Party for Wrong {
+    fn name(&self) -> &'static str {
+        "wrong"
+    }
+
+    fn call(&mut self, mut at: At, call: &Call) -> Option<Answer> {
+        if self.fault == Fault::DropsAtExpiry && matches!(call, Call::Lookup { .. }) {
+            at.clock = at.clock.saturating_add(1);
+        }
+        if self.fault == Fault::Panics && matches!(call, Call::Invalidate { .. }) {
+            panic!("planted");
+        }
+        let mut call = call.clone();
+        if let (Fault::NeverRefuses, Call::Resolve { room, .. }) = (self.fault, &mut call) {
+            *room = usize::MAX;
+        }
+        let mut answer = self.model.call(at, &call);
+        if let (Fault::OneByteLess, Answer::Hit(value)) = (self.fault, &mut answer) {
+            value.pop();
+        }
+        Some(answer)
+    }
+
+    fn state(&self) -> State {
+        let mut state = self.model.state().clone();
+        match self.fault {
+            Fault::CountsNoMiss => state.counts.miss = 0,
+            Fault::OldestFirst => state.shards.iter_mut().for_each(|row| row.reverse()),
+            _ => {}
+        }
+        state
+    }
+}
+
+fn wrong(setup: &Setup, fault: Fault) -> Vec<Box<dyn Party>> {
+    let model = Model::setup(setup).expect("a setup that is not refused");
+    vec![Box::new(Wrong { model, fault })]
+}
+
+/// The first failure that random sequences show, and the number of calls that it is brought down to.
+fn failure(followers: fn(&Setup) -> Vec<Box<dyn Party>>) -> usize {
+    for seed in 1..=100 {
+        let mut sequence = Sequence::begin(
+            seed,
+            Limits {
+                cursor_as_key: true,
+            },
+            followers,
+        );
+        for _ in 0..60 {
+            let (at, call) = sequence.next_call();
+            if let Err(text) = sequence.make(at, call, &mut Coverage::default()) {
+                assert!(text.starts_with(&format!("seed {seed}\n")));
+                let (_, fewer) = text.split_once("fewer calls:\n").expect("fewer calls");
+                return read::sequence(fewer).expect("a transcript").calls.len();
+            }
+        }
+    }
+    panic!("no sequence shows the fault");
+}
+
+#[test]
+fn a_wrong_party_is_noticed_with_few_calls() {
+    let calls = [
+        failure(|setup| wrong(setup, Fault::DropsAtExpiry)),
+        failure(|setup| wrong(setup, Fault::CountsNoMiss)),
+        failure(|setup| wrong(setup, Fault::OldestFirst)),
+        failure(|setup| wrong(setup, Fault::OneByteLess)),
+        failure(|setup| wrong(setup, Fault::NeverRefuses)),
+        failure(|setup| wrong(setup, Fault::Panics)),
+    ];
+    assert!(calls.iter().all(|&count| count <= 4), "{calls:?}");
+    assert_eq!((calls[1], calls[5]), (1, 1));
+}

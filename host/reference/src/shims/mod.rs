@@ -1,0 +1,15 @@
+//! What the sources need from the rest of their crate, as far as they need it, and what this port adds: a settable clock
+//! and the space rule.
+
+/// The crate's early return with an error.
+macro_rules! fail {
+    ($error:expr) => {
+        return Err(::std::convert::From::from($error))
+    };
+}
+
+pub(crate) mod clock;
+pub(crate) mod connection;
+pub(crate) mod errors;
+pub(crate) mod space;
+pub(crate) mod types;
