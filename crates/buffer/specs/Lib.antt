@@ -4,5 +4,6 @@ pub mod Lists
 pub mod Move
 pub mod Part
 pub mod Same
+pub mod Ascii
 pub mod Step
 pub mod Zero

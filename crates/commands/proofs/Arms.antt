@@ -8,13 +8,13 @@ use lib.ListN.{length}
 use borrow.Author.Tests.{ne-eqb}
 use Rattle.buffer.specs.Cases.{byTest}
 use Rattle.buffer.specs.Same.{Bytes, same, same-eq}
-use Rattle.commands.specs.Text.{ascii}
+use Rattle.buffer.specs.Ascii.{ascii}
 use Rattle.commands.specs.Names.{names, allAscii, readOnlyCacheable, member, isCacheable}
 use Rattle.commands.specs.Rows.{row, ofLength}
 
 -- opens the list of names and its rows, so that they compute
 unfoldable pub open-names : Unit {0}
-unfolding readOnlyCacheable allAscii names ascii row ofLength
+unfolding readOnlyCacheable allAscii names row ofLength
 open-names = tt
 
 -- an arm's row holds the names of n bytes, so it answers for a name of n bytes

@@ -1,4 +1,3 @@
-pub mod Text
 pub mod Names
 pub mod MultiKey
 pub mod Rows

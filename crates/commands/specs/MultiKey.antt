@@ -3,7 +3,7 @@
 use mathlib.Core.Bool.{Bool, true, false}
 use mathlib.Core.List.{[]}
 use Rattle.buffer.specs.Same.{Bytes, same}
-use Rattle.commands.specs.Text.{ascii}
+use Rattle.buffer.specs.Ascii.{ascii}
 use Rattle.commands.specs.declared.MultiKey.{MultiKey}
 use Rattle.commands.specs.declared.MultiKey.the-variants.{None, Mget, JsonMget}
 

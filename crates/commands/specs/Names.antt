@@ -4,7 +4,7 @@ use mathlib.Core.Bool.{Bool, true, false, cond}
 use mathlib.Core.List.{List, [], _∷_}
 use Prim.Native.String.{String}
 use Rattle.buffer.specs.Same.{Bytes, same}
-use Rattle.commands.specs.Text.{ascii}
+use Rattle.buffer.specs.Ascii.{ascii}
 
 -- the arm's names, line by line as there
 unfoldable pub names : List String

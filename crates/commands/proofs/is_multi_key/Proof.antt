@@ -1,6 +1,6 @@
 -- `commands::is_multi_key` meets its contract. Assumes nothing.
 use mathlib.Core.Path.{sym, _∙_}
-use Rattle.commands.specs.Text.{ascii}
+use Rattle.buffer.specs.Ascii.{ascii}
 use Rattle.commands.specs.MultiKey.{multiKey}
 use Rattle.commands.proofs.Agrees.{agrees}
 use borrow.Author.Needs.{needs}
@@ -14,7 +14,7 @@ same-requires : tie.Need-same-requires
 same-requires c κs = search needs
 
 returns : tie.Need-returns
-unfolding multiKey ascii
+unfolding multiKey
 returns c = rw (sym (agrees _ _ _ (c .before .same .ensures)) ∙ c .if1 .taken)
 
 slice-aggregate-same-2 : tie.Need-slice-aggregate-same-2
@@ -24,11 +24,11 @@ same-requires-2 : tie.Need-same-requires-2
 same-requires-2 c κs = search needs
 
 returns-2 : tie.Need-returns-2
-unfolding multiKey ascii
+unfolding multiKey
 returns-2 c = rw (sym (agrees _ _ _ (c .before .before .before .before .same .ensures)) ∙ c .before .before .before .if1 .left, sym (agrees _ _ _ (c .before .same2 .ensures)) ∙ c .if2 .taken)
 
 returns-3 : tie.Need-returns-3
-unfolding multiKey ascii
+unfolding multiKey
 returns-3 c = rw (sym (agrees _ _ _ (c .before .before .before .before .same .ensures)) ∙ c .before .before .before .if1 .left, sym (agrees _ _ _ (c .before .same2 .ensures)) ∙ c .if2 .left)
 
 pub is-multi-key-spec : {M : Type 1} → statement M
