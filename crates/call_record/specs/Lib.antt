@@ -1,0 +1,5 @@
+pub mod Record
+pub mod Offset
+pub mod Formats
+pub mod Check
+pub mod Paths

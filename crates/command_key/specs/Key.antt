@@ -1,0 +1,35 @@
+-- Command keys, document 01's "Planning": `cmd.data`, the simple arguments joined without marks; for several keys `GET` or `JSON.GET`, key
+-- and path. Definitions alone; nothing is assumed.
+use mathlib.Core.Bool.{Bool, true, false}
+use mathlib.Core.List.{List, [], _∷_, _++_}
+use Prim.Native.Nat.{ℕ, _≤_}
+use lib.ListN.{length}
+use Rattle.buffer.specs.Same.{Bytes}
+use Rattle.config.specs.Limits.{maxBytes}
+use Rattle.call_record.specs.Record.{Argument}
+use Rattle.cursor.specs.At.{rangeBytes, RangeIn, argsOf, ArgsHere}
+use Rattle.cursor.specs.Index.{own}
+use Rattle.command_key.specs.declared.CommandKey.{CommandKey}
+use Rattle.command_key.specs.declared.CommandKey.the-variants.{Part, Joined, Named}
+
+-- `cmd.data`: the simple arguments, joined
+unfoldable pub joined : List Argument → Bytes
+joined [] = []
+joined (a ∷ l) = own a ++ joined l
+
+-- `JSON.GET`, or `GET`
+unfoldable pub nameBytes : Bool → Bytes
+nameBytes true = 74 ∷ 83 ∷ 79 ∷ 78 ∷ 46 ∷ 71 ∷ 69 ∷ 84 ∷ []
+nameBytes false = 71 ∷ 69 ∷ 84 ∷ []
+
+-- the bytes that a command key stands for, gathered from s: a range; the arguments before a cursor; a name, a key and a path
+unfoldable pub keyBytes : Bytes → CommandKey → Bytes
+keyBytes s (Part g) = rangeBytes s g
+keyBytes s (Joined k) = joined (argsOf s k)
+keyBytes s (Named json key path) = nameBytes json ++ (rangeBytes s key ++ rangeBytes s path)
+
+-- what it is gathered from lies inside; a name's key and path stand in a call record, which is at most 16 MiB
+unfoldable pub KeyIn : Bytes → CommandKey → Type 0
+KeyIn s (Part g) = RangeIn s g
+KeyIn s (Joined k) = ArgsHere s k
+KeyIn s (Named json key path) = RangeIn s key × RangeIn s path × (length s ≤ maxBytes)

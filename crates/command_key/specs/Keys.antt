@@ -1,0 +1,57 @@
+-- By the cases of a command key: what lies inside, and which bytes it stands for. Assumes nothing.
+use mathlib.Core.Path.{_≡_, refl, sym, ap, ap₂, _∙_}
+use mathlib.Core.Bool.{Bool, true, false, cond}
+use mathlib.Core.List.{List, [], _∷_, _++_, append-nil}
+use Prim.Native.Nat.{ℕ, _+_, _-_, _≤_, _<_}
+use native.Mathlib.Omega.{arith}
+use lib.ListN.{length, take, drop}
+use Rattle.buffer.specs.Same.{Bytes}
+use Rattle.buffer.specs.Part.{part, length-part}
+use Rattle.config.specs.Limits.{maxBytes}
+use Rattle.cursor.specs.At.{rangeBytes, RangeIn, argsOf, ArgsHere}
+use Rattle.cursor.specs.declared.Args.{Args}
+use Rattle.cursor.specs.declared.Range.{Range}
+use Rattle.command_key.specs.Key.{joined, nameBytes, keyBytes, KeyIn}
+use Rattle.command_key.specs.declared.CommandKey.{CommandKey}
+use Rattle.command_key.specs.declared.CommandKey.the-variants.{Part, Joined, Named}
+
+-- the bytes of a range, as they are cut out, and how many they are
+pub range-length : (s : Bytes) (g : Range) → RangeIn s g → length (rangeBytes s g) ≡ g .end - g .start
+range-length s g w = let a = w .0 in let b = w .1 in length-part s (g .start) (g .end - g .start) (omega arith)
+
+abbrev pub cutOf : Bytes → Range → Bytes
+cutOf s g = take (g .end - g .start) (drop (g .start) s)
+
+pub range-cut : (s : Bytes) (g : Range) → cutOf s g ≡ rangeBytes s g
+unfolding part
+range-cut s g = refl
+
+pub cut-length : (s : Bytes) (g : Range) → RangeIn s g → length (cutOf s g) ≡ g .end - g .start
+cut-length s g w = ap length (range-cut s g) ∙ range-length s g w
+
+-- ---- by cases
+
+module _ (s : Bytes) (key : CommandKey) (w : KeyIn s key) where
+  pub part-in : (g : Range) → key ≡ Part g → RangeIn s g
+  unfolding KeyIn
+  part-in g e = rw e at w
+
+  pub part-bytes : (g : Range) → key ≡ Part g → rangeBytes s g ≡ keyBytes s key
+  unfolding keyBytes
+  part-bytes g e = rw e
+
+  pub joined-in : (k : Args) → key ≡ Joined k → ArgsHere s k
+  unfolding KeyIn
+  joined-in k e = rw e at w
+
+  pub joined-bytes : (k : Args) → key ≡ Joined k → joined (argsOf s k) ≡ keyBytes s key
+  unfolding keyBytes
+  joined-bytes k e = rw e
+
+  pub named-in : (json : Bool) (g p : Range) → key ≡ Named json g p → RangeIn s g × RangeIn s p × (length s ≤ maxBytes)
+  unfolding KeyIn
+  named-in json g p e = rw e at w
+
+  pub named-bytes : (json : Bool) (g p : Range) → key ≡ Named json g p → nameBytes json ++ (rangeBytes s g ++ rangeBytes s p) ≡ keyBytes s key
+  unfolding keyBytes
+  named-bytes json g p e = rw e

@@ -1,0 +1,5 @@
+pub mod Key
+pub mod Copied
+pub mod Joined
+pub mod Keys
+pub mod Named

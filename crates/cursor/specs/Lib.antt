@@ -1,0 +1,5 @@
+pub mod Lies
+pub mod At
+pub mod Laws
+pub mod Steps
+pub mod Index

@@ -1,0 +1,9 @@
+pub mod Format
+pub mod Both
+pub mod Map
+pub mod Runs
+pub mod Numbers
+pub mod Words
+pub mod Ends
+pub mod Skips
+pub mod Places
