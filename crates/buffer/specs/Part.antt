@@ -4,7 +4,7 @@ use mathlib.Core.List.{List, _++_, append-assoc}
 use Prim.Native.Nat.{ℕ, _+_, _-_, _≤_, _<_}
 use native.Mathlib.Omega.{arith}
 use lib.ListN.{length, getD, take, drop, length-append, length-take, length-drop, take-append-drop}
-use lib.Seq.{take-all, take-at, drop-at, take-add, take-take, take-append-le, drop-append-le, drop-drop, getD-take, getD-drop, length-take-le}
+use lib.Seq.{take-length, take-all, take-at, drop-at, take-add, take-take, take-append-le, drop-append-le, drop-drop, getD-take, getD-drop, length-take-le}
 use Rattle.buffer.specs.Lists.{drop-take, take-past, drop-past}
 
 -- the n elements of s at `at`
@@ -32,6 +32,11 @@ module _ {ℓ} {A : Type ℓ} where
   pub part-rest : (s : List A) (at n : ℕ) → length s ≤ at + n → part s at n ≡ drop at s
   unfolding part
   part-rest s at n h = take-all n (drop at s) (omega (arith, length-drop at s))
+
+  -- a list is the part that is as long as it
+  pub part-all : (s : List A) → part s 0 (length s) ≡ s
+  unfolding part
+  part-all s = take-length s
 
   -- a part of a part
   pub part-part : (s : List A) (at n i m : ℕ) → i + m ≤ n → part (part s at n) i m ≡ part s (at + i) m

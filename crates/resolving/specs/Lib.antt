@@ -1,0 +1,15 @@
+pub mod Plan
+pub mod Convert
+pub mod Store
+pub mod Resolve
+pub mod Result
+pub mod Pushes
+pub mod Cases
+pub mod PushCases
+pub mod Expiry
+pub mod ResultLaws
+pub mod Made
+pub mod Kept
+pub mod Vec
+pub mod Rust
+pub mod Same

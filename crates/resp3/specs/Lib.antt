@@ -1,0 +1,13 @@
+pub mod Kinds
+pub mod Value
+pub mod Ends
+pub mod Paths
+pub mod KindLaws
+pub mod Rows
+pub mod Decode
+pub mod Complete
+pub mod Says
+pub mod Sound
+pub mod Law
+pub mod Examples
+pub mod Cases

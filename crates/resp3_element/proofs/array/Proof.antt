@@ -1,0 +1,14 @@
+-- `resp3_element::array` meets its contract. Assumes nothing.
+use borrow.Author.Needs.{needs}
+use Rattle.resp3_element.specs.CursorLaw as law
+use Rattle.resp3_element.proofs.array.Statement.{statement}
+use Rattle.resp3_element.proofs.array.Tie as tie
+
+list-requires : tie.Need-list-requires
+list-requires c κs = search needs
+
+returns : tie.Need-returns
+returns c = (λ v m. rw (c .list .ensures) (law.array-law _ v m))
+
+pub array-spec : {M : Type 1} → statement M
+array-spec = tie.close (tie.spec list-requires returns)

@@ -1,0 +1,5 @@
+pub mod Meaning
+pub mod Places
+pub mod Law
+pub mod CursorLaw
+pub mod Paths
