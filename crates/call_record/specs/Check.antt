@@ -1,7 +1,7 @@
 -- The check of a call record as a definition, and what its answers mean (`check-fine`, `check-offset`). Assumes nothing.
 use mathlib.Core.Path.{_≡_, refl, sym, ap, _∙_}
 use mathlib.Core.Logic.{_↔_, _⊎_, inl, inr, ⊎-elim}
-use mathlib.Core.List.{List, [], _∷_, _++_, append-nil, append-assoc}
+use mathlib.Core.List.{[], _∷_, _++_, append-nil, append-assoc}
 use Prim.Native.Nat.{ℕ, _+_, _-_, _≤_, _<_}
 use native.Mathlib.Omega.{arith}
 use native.Mathlib.Nat.{le-antisymm}
@@ -10,7 +10,7 @@ use lib.Seq.{take-append-add, take-at, take-all, take-take}
 use Rattle.buffer.specs.Same.{Bytes}
 use Rattle.format.specs.Format.{Read, ok, bad, short, Begins}
 use Rattle.call_record.specs.Record.{Record, encRecord, ValidRecord}
-use Rattle.call_record.specs.Offset.{IsRecord, NoneBegins, EndsEarly, Allowed, FirstAllowed}
+use Rattle.call_record.specs.Offset.{IsRecord, EndsEarly, Allowed, FirstAllowed}
 use Rattle.call_record.specs.Formats.{recordF}
 use Rattle.call_record.specs.declared.Checked.{Checked}
 use Rattle.call_record.specs.declared.Checked.the-variants.{Fine, Wrong}
@@ -28,6 +28,7 @@ checkDef s = checkOf (length s) (recordF .read s)
 
 -- ---- fine
 
+-- what is read to its end is a record
 is-record : (s : Bytes) (r : Record) → recordF .read s ≡ ok r [] → IsRecord s
 is-record s r e =
     let i = recordF .sound s r [] e in
@@ -41,6 +42,7 @@ read-record s r v e = ap (recordF .read) (e ∙ sym (append-nil (encRecord r))) 
 pub record-one : (s : Bytes) (r q : Record) → ValidRecord r → ValidRecord q → s ≡ encRecord r → s ≡ encRecord q → r ≡ q
 record-one s r q v w e f = let k : ok r [] ≡ ok q [] = sym (read-record s r v e) ∙ read-record s q w f in cc
 
+-- what is found fine is a record
 fine-sound : (s : Bytes) → checkDef s ≡ Fine → IsRecord s
 unfolding checkDef checkOf
 fine-sound s e = go (recordF .read s) refl e
@@ -113,6 +115,7 @@ lacks s b k = go (b .rest) (b .bytes)
         absurd (omega arith)
     go (x ∷ t) e = record { value = b .value; rest = x ∷ t; valid = b .fine; bytes = e; more = omega arith }
 
+-- the record ends early
 early : (s : Bytes) (o : ℕ) → o ≡ length s → recordF .read s ≡ short → Found s o
 early s o h k =
     let b = recordF .early s k in
@@ -121,6 +124,7 @@ early s o h k =
       before = record { value = b .value; rest = b .rest; fine = b .fine; bytes = b .bytes ∙ ap (λ (l : Bytes). l ++ b .rest) (sym (take-all o s (omega arith))) };
     }
 
+-- what an answered offset means
 found : (s : Bytes) (o : ℕ) → checkDef s ≡ Wrong o → Found s o
 unfolding checkDef checkOf
 found s o e = go (recordF .read s) refl e
@@ -131,6 +135,7 @@ found s o e = go (recordF .read s) refl e
     go (bad m) k q = let h : m ≡ o = cc in stuck s o (k ∙ ap bad h)
     go short k q = let h : length s ≡ o = cc in early s o (sym h) k
 
+-- an allowed offset is at most the length
 allowed-inside : (s : Bytes) (o : ℕ) → Allowed s o → o ≤ length s
 allowed-inside s o a = ⊎-elim (λ w. let h = w .0 in omega arith) (λ w. let h = w .0 in omega arith) a
 
@@ -145,6 +150,7 @@ none-earlier s o p l b a h =
     (λ w. let e = w .0 in omega arith)
     a
 
+-- it is the first
 first-allowed : (s : Bytes) (o : ℕ) → Found s o → FirstAllowed s o
 first-allowed s o w =
     record {

@@ -1,23 +1,22 @@
 -- The record's format: how an argument, a command and the record are read, put together from the formats of the crate `format`, so that
 -- the laws of reading come with them. Assumes nothing.
-use mathlib.Core.Path.{_≡_, refl, sym, ap, ap₂, _∙_}
+use mathlib.Core.Path.{_≡_, refl, sym, ap, _∙_}
 use mathlib.Core.Bool.{Bool, true, false, cond, true≢false, false≢true}
 use mathlib.Core.List.{List, [], _∷_, _++_, append-nil}
 use Prim.Native.Nat.{ℕ, _/_, _%_, _^_, _≤_, _<_}
 use native.Mathlib.Omega.{arith}
 use lib.Dec.{eqb, leb, ltb}
 use lib.ListN.{length}
-use borrow.Author.Tests.{lt-ltb, ltb-true, le-leb, leb-true, leb-false, eq-eqb, eqb-true, eqb-false}
+use borrow.Author.Tests.{lt-ltb, ltb-true, le-leb, leb-true, leb-false, eqb-true, eqb-false}
 use Rattle.buffer.specs.Cases.{byTest}
-use Rattle.buffer.specs.Field.{le, le16, le64}
+use Rattle.buffer.specs.Field.{le}
 use Rattle.config.specs.Limits.{maxCommands, maxArguments, maxArgument}
 use Rattle.format.specs.Format.{Format, byteF}
 use Rattle.format.specs.Both.{bothF}
 use Rattle.format.specs.Map.{From, mapF}
-use Rattle.format.specs.Runs.{encAll, All, Byte}
 use Rattle.format.specs.Numbers.{numberF}
 use Rattle.format.specs.Words.{wordF, listF, textF}
-use Rattle.call_record.specs.Record.{Argument, simple, cursor, Command, Record, bit, mark, encArgument, encCommand, encRecord, ValidArgument, ValidCommand, ValidRecord}
+use Rattle.call_record.specs.Record.{Argument, simple, cursor, Command, Record, bit, encArgument, encCommand, encRecord, ValidArgument, ValidCommand, ValidRecord}
 
 -- ---- arguments
 
@@ -26,30 +25,37 @@ abbrev pub textMax : Bool → ℕ
 textMax true = maxArgument
 textMax false = 0
 
+-- four bytes hold it
 pub text-fits : (b : Bool) → textMax b < 256 ^ 4
 text-fits true = omega arith
 text-fits false = omega arith
 
+-- length and bytes
 abbrev pub bodyF : Bool → Format (List ℕ)
 bodyF b = textF 4 (textMax b) (text-fits b)
 
+-- 0 or 1
 abbrev pub kindB : ℕ → Bool
 kindB k = ltb k 2
 
 abbrev pub KindBody : Format (ℕ × List ℕ)
 KindBody = bothF (byteF kindB 0 refl) (λ k. bodyF (eqb k 0))
 
+-- an argument by its kind
 abbrev pub argumentIf : Bool → List ℕ → Argument
 argumentIf true l = simple l
 argumentIf false l = cursor
 
+-- an argument from kind and bytes
 abbrev pub argumentOf : ℕ × List ℕ → Argument
 argumentOf x = argumentIf (eqb (x .0) 0) (x .1)
 
+-- no bytes
 no-text : (l : List ℕ) → length l ≤ 0 → l ≡ []
 no-text [] h = refl
 no-text (x ∷ l) h = absurd (omega arith)
 
+-- its bytes are those of the record
 pub arg-written : (x : ℕ × List ℕ) → KindBody .valid x → encArgument (argumentOf x) ≡ KindBody .enc x
 unfolding encArgument
 arg-written (k, l) h = go (eqb k 0) refl (h .1)
@@ -63,6 +69,7 @@ arg-written (k, l) h = go (eqb k 0) refl (h .1)
         let z : l ≡ [] = no-text l (v .0) in
         rw (z, append-nil (le 4 0)) (ap (λ (n : ℕ). n ∷ le 4 0) (one-left k (ltb-true k 2 (h .0)) (eqb-false k 0 e)))
 
+-- it is valid
 pub arg-kept : (x : ℕ × List ℕ) → KindBody .valid x → ValidArgument (argumentOf x)
 unfolding ValidArgument
 arg-kept (k, l) h = go (eqb k 0) (h .1)
@@ -71,11 +78,13 @@ arg-kept (k, l) h = go (eqb k 0) (h .1)
     go true v = v
     go false v = tt
 
+-- every valid argument is read so
 pub arg-onto : (a : Argument) → ValidArgument a → From (KindBody .valid) argumentOf a
 unfolding ValidArgument
 arg-onto (simple l) h = record { value = (0, l); fine = (refl, h); same = refl }
 arg-onto cursor h = record { value = (1, []); fine = (refl, (omega arith, tt)); same = refl }
 
+-- the format of an argument
 abbrev pub argumentF : Format Argument
 argumentF = mapF KindBody argumentOf encArgument ValidArgument arg-written arg-kept arg-onto
 
@@ -91,6 +100,7 @@ pub record Flags (f : ℕ) : Type 0 where
   pub enable : bit 2 f ≡ true → bit 1 f ≡ true
   pub client : bit 3 f ≡ true → bit 1 f ≡ true
 
+-- the test says so
 pub flags-are : (f : ℕ) → flagsB f ≡ true → Flags f
 flags-are f e =
     byTest (leb f 15)
@@ -106,6 +116,7 @@ flags-are f e =
     }))
     (λ t. let k : false ≡ true = rw t at e in absurd (false≢true k))
 
+-- and only then
 pub are-flags : (f : ℕ) → Flags f → flagsB f ≡ true
 are-flags f w =
     let l = w .low in
@@ -130,16 +141,20 @@ abbrev pub ttlMax : Bool → ℕ
 ttlMax true = 18446744073709551615
 ttlMax false = 0
 
+-- eight bytes hold it
 pub ttl-fits : (b : Bool) → ttlMax b < 256 ^ 8
 ttl-fits true = omega arith
 ttl-fits false = omega arith
 
+-- a TTL, by whether there is one
 abbrev pub ttlF : Bool → Format ℕ
 ttlF b = numberF 8 (ttlMax b) (ttl-fits b)
 
+-- two bytes hold a count
 pub count-fits : 1024 < 256 ^ 2
 count-fits = omega arith
 
+-- the arguments behind their count
 abbrev pub argumentsF : Format (List Argument)
 argumentsF = listF 2 maxArguments count-fits argumentF
 
@@ -147,27 +162,33 @@ argumentsF = listF 2 maxArguments count-fits argumentF
 abbrev pub CursorArgs : Format (ℕ × List Argument)
 CursorArgs = bothF (ttlF true) (λ c. argumentsF)
 
+-- what follows the flags
 abbrev pub afterFlags : ℕ → Format (ℕ × (ℕ × List Argument))
 afterFlags f = bothF (ttlF (bit 3 f)) (λ t. CursorArgs)
 
 abbrev pub CommandParts : Format (ℕ × (ℕ × (ℕ × List Argument)))
 CommandParts = bothF (byteF flagsB 0 refl) afterFlags
 
+-- a command from its fields
 abbrev pub commandOf : ℕ × (ℕ × (ℕ × List Argument)) → Command
 commandOf x = record { flags = x .0; ttl = x .1 .0; cursor = x .1 .1 .0; args = x .1 .1 .1 }
 
+-- what a TTL may be
 ttl-valid : (b : Bool) (n : ℕ) → n ≤ ttlMax b → (n < 2 ^ 64) × (b ≡ false → n ≡ 0)
 ttl-valid true n h = (omega arith, λ e. absurd (true≢false e))
 ttl-valid false n h = (omega arith, λ e. omega arith)
 
+-- and conversely
 valid-ttl : (b : Bool) (n : ℕ) → n < 2 ^ 64 → (b ≡ false → n ≡ 0) → n ≤ ttlMax b
 valid-ttl true n h z = omega arith
 valid-ttl false n h z = let y = z refl in omega arith
 
+-- its bytes are those of the record
 pub com-written : (x : ℕ × (ℕ × (ℕ × List Argument))) → CommandParts .valid x → encCommand (commandOf x) ≡ CommandParts .enc x
 unfolding encCommand
 com-written x h = refl
 
+-- it is valid
 pub com-kept : (x : ℕ × (ℕ × (ℕ × List Argument))) → CommandParts .valid x → ValidCommand (commandOf x)
 com-kept x h =
     let t = ttl-valid (bit 3 (x .0)) (x .1 .0) (h .1 .0) in
@@ -183,6 +204,7 @@ com-kept x h =
       args = h .1 .1 .1 .1;
     }
 
+-- every valid command is read so
 pub com-onto : (c : Command) → ValidCommand c → From (CommandParts .valid) commandOf c
 com-onto c v =
     record {
@@ -197,6 +219,7 @@ com-onto c v =
       same = refl;
     }
 
+-- the format of a command
 abbrev pub commandF : Format Command
 commandF = mapF CommandParts commandOf encCommand ValidCommand com-written com-kept com-onto
 
@@ -206,9 +229,11 @@ commandF = mapF CommandParts commandOf encCommand ValidCommand com-written com-k
 abbrev pub start : List ℕ
 start = 84 ∷ 82 ∷ 80 ∷ 1 ∷ 0 ∷ []
 
+-- only bit 0
 abbrev pub headB : ℕ → Bool
 headB f = ltb f 2
 
+-- the commands behind their count
 abbrev pub commandsF : Format (List Command)
 commandsF = listF 2 maxCommands count-fits commandF
 
@@ -219,16 +244,20 @@ FlagsCommands = bothF (byteF headB 0 refl) (λ f. commandsF)
 abbrev pub RecordParts : Format (Unit {0} × (ℕ × List Command))
 RecordParts = bothF (wordF start) (λ u. FlagsCommands)
 
+-- a record from its fields
 abbrev pub recordOf : Unit {0} × (ℕ × List Command) → Record
 recordOf x = record { flags = x .1 .0; commands = x .1 .1 }
 
+-- its bytes
 pub rec-written : (x : Unit {0} × (ℕ × List Command)) → RecordParts .valid x → encRecord (recordOf x) ≡ RecordParts .enc x
 unfolding encRecord le
 rec-written x h = refl
 
+-- it is valid
 pub rec-kept : (x : Unit {0} × (ℕ × List Command)) → RecordParts .valid x → ValidRecord (recordOf x)
 rec-kept x h = record { flags = ltb-true _ _ (h .1 .0); count = h .1 .1 .0; commands = h .1 .1 .1 }
 
+-- every valid record is read so
 pub rec-onto : (r : Record) → ValidRecord r → From (RecordParts .valid) recordOf r
 rec-onto r v =
     record {
@@ -237,5 +266,6 @@ rec-onto r v =
       same = refl;
     }
 
+-- the format of a record
 abbrev pub recordF : Format Record
 recordF = mapF RecordParts recordOf encRecord ValidRecord rec-written rec-kept rec-onto

@@ -1,28 +1,26 @@
 -- A law for each way through the code of the check. Assumes nothing.
-use mathlib.Core.Path.{_≡_, refl, sym, ap, _∙_}
+use mathlib.Core.Path.{_≡_, refl, ap, _∙_}
 use mathlib.Core.Bool.{Bool, true, false}
-use mathlib.Core.List.{List, [], _∷_, _++_}
-use Prim.Native.Nat.{ℕ, _+_, _-_, _*_, _%_, _/_, _^_, _≤_, _<_}
+use mathlib.Core.List.{List, [], _∷_}
+use Prim.Native.Nat.{ℕ, _+_, _-_, _^_, _≤_, _<_}
 use native.Mathlib.Omega.{arith}
 use native.Mathlib.Numerals.{add-one}
-use lib.Dec.{eqb, ltb}
-use lib.ListN.{length, take, drop, getD, length-append, length-drop, drop-of-length-le}
+use lib.Dec.{eqb}
+use lib.ListN.{length, drop, getD, length-append, drop-of-length-le}
 use lib.Seq.{drop-cons}
 use borrow.Author.Tests.{lt-ltb, le-ltb}
-use Rattle.buffer.specs.Field.{Octets, readLe, read16, read32}
+use Rattle.buffer.specs.Field.{Octets, read16, read32}
 use Rattle.config.specs.Limits.{maxCommands, maxArguments}
 use Rattle.format.specs.declared.End.{End}
 use Rattle.format.specs.declared.End.the-variants.{At, Wrong}
 use Rattle.format.specs.Format.{Read, ok, bad, short, Format, byteF}
-use Rattle.format.specs.Both.{bothF}
 use Rattle.format.specs.Words.{wordF}
-use Rattle.format.specs.Ends.{endOf, endAt, Got, got-of, some-at, at-some, both-go, both-wrong, map-end, byte-got, byte-bad, byte-out, manyEnd, many-none, many-go, many-wrong, many-is}
+use Rattle.format.specs.Ends.{endOf, endAt, got-of, some-at, at-some, both-go, both-wrong, map-end, byte-got, byte-bad, byte-out, manyEnd, many-none, many-go, many-wrong}
 use Rattle.format.specs.Skips.{skipEnd, skips-end, skip-number}
 use Rattle.format.specs.Places.{numberEnd, number-end, number-inside, wordEnd, word-end, word-none, word-out, word-bad, word-go, list-wrong, list-go, text-wrong, text-go}
-use Rattle.call_record.specs.Record.{Argument, simple, cursor, Command, Record, bit, encArgument, encCommand}
+use Rattle.call_record.specs.Record.{Record, bit}
 use Rattle.call_record.specs.Formats.{textMax, text-fits, bodyF, kindB, KindBody, argumentF, flagsB, ttlMax, ttl-fits, ttlF, count-fits, argumentsF, CursorArgs, afterFlags, CommandParts, commandF, start, headB, commandsF, FlagsCommands, RecordParts, recordF}
 use Rattle.call_record.specs.Check.{checkOf, checkDef}
-use Rattle.call_record.specs.declared.Checked.{Checked}
 use Rattle.call_record.specs.declared.Checked.the-variants.{Fine, Wrong as Bad}
 
 -- ---- the given bytes, byte by byte
@@ -31,15 +29,19 @@ module _ (bs s : List ℕ) (k i : ℕ) (h : k < length bs) where
   rest-is : drop k bs ≡ getD bs k 0 ∷ drop (k + 1) bs
   rest-is = rw add-one (drop-cons bs k 0 h)
 
+  -- the bytes end
   pub turn-out : length s ≤ i → wordEnd (drop k bs) s i ≡ Wrong (length s)
   turn-out l = rw rest-is (word-out s i (getD bs k 0) (drop (k + 1) bs) l)
 
+  -- another byte
   pub turn-bad : i < length s → (getD s i 0 ≡ getD bs k 0 → ⊥) → wordEnd (drop k bs) s i ≡ Wrong i
   turn-bad l n = rw rest-is (word-bad s i (getD bs k 0) (drop (k + 1) bs) l n)
 
+  -- the same byte
   pub turn-go : i < length s → getD s i 0 ≡ getD bs k 0 → wordEnd (drop k bs) s i ≡ wordEnd (drop (k + 1) bs) s (i + 1)
   turn-go l e = rw rest-is (word-go s i (getD bs k 0) (drop (k + 1) bs) l e)
 
+-- all were there
 pub turn-done : (bs s : List ℕ) (k i : ℕ) → length bs ≤ k → i ≤ length s → wordEnd (drop k bs) s i ≡ At i
 turn-done bs s k i h l = rw (drop-of-length-le bs {i = k} h) (word-none s i l)
 
@@ -54,20 +56,25 @@ module _ (b : Bool) (m : ℕ) (q : m ≡ textMax b) (s : List ℕ) (at : ℕ) wh
   unfolding textEnd
   text-no o k = text-wrong 4 (textMax b) (text-fits b) s at o (rw q at k)
 
+  -- a length that was read lies inside
   pub text-inside : (e : ℕ) → at ≤ length s → numberEnd 4 m s at ≡ At e → (at + 4 ≤ length s) × (e ≤ length s)
   text-inside e h k = let w = number-inside 4 (textMax b) s at (text-fits b) e h (rw q at k) in let z = w .0 in let i = w .1 in (omega arith, i)
 
+  -- on to the bytes
   pub text-on : (e n : ℕ) → Octets s → at ≤ length s → numberEnd 4 m s at ≡ At e → n ≡ read32 s at → textEnd b s at ≡ skipEnd (length s) e n
   unfolding textEnd
   text-on e n o h k z = rw z (text-go 4 (textMax b) (text-fits b) s at e o h (rw q at k))
 
+-- where an argument ends
 unfoldable pub argumentEnd : List ℕ → ℕ → End
 argumentEnd s at = endAt argumentF s at
 
+-- as kind, length and bytes
 arg-map : (s : List ℕ) (at : ℕ) → argumentEnd s at ≡ endAt KindBody s at
 unfolding argumentEnd
 arg-map s at = map-end KindBody s at _ _ _ _ _ _
 
+-- by its kind
 abbrev bodyOf : ℕ → Format (List ℕ)
 bodyOf k = bodyF (eqb k 0)
 
@@ -75,47 +82,58 @@ module _ (s : List ℕ) (at : ℕ) where
   pub arg-out : length s ≤ at → argumentEnd s at ≡ Wrong (length s)
   arg-out h = arg-map s at ∙ both-wrong (byteF kindB 0 refl) s at bodyOf (length s) (byte-out kindB 0 refl s at h)
 
+  -- no kind
   pub arg-kind : at < length s → 2 ≤ getD s at 0 → argumentEnd s at ≡ Wrong at
   arg-kind h k = arg-map s at ∙ both-wrong (byteF kindB 0 refl) s at bodyOf at (byte-bad kindB 0 refl s at h (le-ltb (getD s at 0) 2 k))
 
+  -- on to length and bytes
   pub arg-go : at < length s → getD s at 0 < 2 → argumentEnd s at ≡ textEnd (eqb (getD s at 0) 0) s (at + 1)
   unfolding textEnd
   arg-go h l = arg-map s at ∙ both-go (byteF kindB 0 refl) s at bodyOf (getD s at 0) (at + 1) (byte-got kindB 0 refl s at h (lt-ltb (getD s at 0) 2 l))
 
+-- it lies inside
 pub arg-inside : (s : List ℕ) (at e : ℕ) → at ≤ length s → argumentEnd s at ≡ At e → e ≤ length s
 unfolding argumentEnd
 arg-inside s at e h k = some-at argumentF s at h e k .got .inside
 
 -- ---- arguments
 
+-- where n arguments end
 unfoldable pub argumentsEnd : List ℕ → ℕ → ℕ → End
 argumentsEnd s n at = manyEnd argumentF s n at
 
+-- none is left
 pub args-none : (s : List ℕ) (n at : ℕ) → n ≡ 0 → at ≤ length s → argumentsEnd s n at ≡ At at
 unfolding argumentsEnd
 args-none s n at z h = rw z (many-none argumentF s at h)
 
+-- one, and the others behind it
 pub args-go : (s : List ℕ) (n m at e : ℕ) → m ≡ n + 1 → at ≤ length s → argumentEnd s at ≡ At e → argumentsEnd s m at ≡ argumentsEnd s n e
 unfolding argumentsEnd argumentEnd
 args-go s n m at e q h k = many-go argumentF s n m at e q h k
 
+-- the first is wrong
 pub args-wrong : (s : List ℕ) (n m at o : ℕ) → m ≡ n + 1 → argumentEnd s at ≡ Wrong o → argumentsEnd s m at ≡ Wrong o
 unfolding argumentsEnd argumentEnd
 args-wrong s n m at o q k = many-wrong argumentF s n m at o q k
 
 -- ---- a command
 
+-- where a TTL ends
 unfoldable pub ttlEnd : Bool → List ℕ → ℕ → End
 ttlEnd b s at = endAt (ttlF b) s at
 
+-- any eight bytes where there is one
 pub ttl-skip : (s : List ℕ) → Octets s → (at : ℕ) → at ≤ length s → ttlEnd true s at ≡ skipEnd (length s) at 8
 unfolding ttlEnd
 ttl-skip s b at h = skips-end (ttlF true) 8 (skip-number 8 (ttlMax true) (ttl-fits true) (omega arith)) s b at h
 
+-- zeros where there is none
 pub ttl-zeros : (s : List ℕ) (at : ℕ) → ttlEnd false s at ≡ numberEnd 8 0 s at
 unfolding ttlEnd
 ttl-zeros s at = number-end 8 0 (ttl-fits false) s at
 
+-- it lies inside
 pub ttl-inside : (b : Bool) (s : List ℕ) (at e : ℕ) → at ≤ length s → ttlEnd b s at ≡ At e → e ≤ length s
 unfolding ttlEnd
 ttl-inside b s at e h k = some-at (ttlF b) s at h e k .got .inside
@@ -134,22 +152,27 @@ module _ (s : List ℕ) (b : Octets s) (at : ℕ) (h : at ≤ length s) where
   rest-short k =
       both-wrong (ttlF true) s at (λ c. argumentsF) (length s) (skip-number 8 (ttlMax true) (ttl-fits true) (omega arith) .lack s b at h k)
 
+  -- on behind the cursor
   rest-on : at + 8 ≤ length s → restEnd s at ≡ endAt argumentsF s (at + 8)
   unfolding restEnd
   rest-on k =
       let w = skip-number 8 (ttlMax true) (ttl-fits true) (omega arith) .whole s b at (at + 8) refl k in
       both-go (ttlF true) s at (λ c. argumentsF) (w .value) (at + 8) (w .got)
 
+  -- the count is wrong
   pub rest-wrong : (o : ℕ) → at + 8 ≤ length s → numberEnd 2 maxArguments s (at + 8) ≡ Wrong o → restEnd s at ≡ Wrong o
   rest-wrong o k q = rest-on k ∙ list-wrong 2 maxArguments count-fits s (at + 8) argumentF o q
 
+  -- on to the arguments
   pub rest-go : (e n : ℕ) → at + 8 ≤ length s → numberEnd 2 maxArguments s (at + 8) ≡ At e → n ≡ read16 s (at + 8) → restEnd s at ≡ argumentsEnd s n e
   unfolding argumentsEnd
   rest-go e n k q z = rw z (rest-on k ∙ list-go 2 maxArguments count-fits s (at + 8) argumentF e k q)
 
+-- where a command ends
 unfoldable pub commandEnd : List ℕ → ℕ → End
 commandEnd s at = endAt commandF s at
 
+-- as its fields
 command-map : (s : List ℕ) (at : ℕ) → commandEnd s at ≡ endAt CommandParts s at
 unfolding commandEnd
 command-map s at = map-end CommandParts s at _ _ _ _ _ _
@@ -158,39 +181,48 @@ module _ (s : List ℕ) (at : ℕ) where
   pub command-out : length s ≤ at → commandEnd s at ≡ Wrong (length s)
   command-out h = command-map s at ∙ both-wrong (byteF flagsB 0 refl) s at afterFlags (length s) (byte-out flagsB 0 refl s at h)
 
+  -- wrong flags
   pub command-flags : at < length s → flagsB (getD s at 0) ≡ false → commandEnd s at ≡ Wrong at
   command-flags h k = command-map s at ∙ both-wrong (byteF flagsB 0 refl) s at afterFlags at (byte-bad flagsB 0 refl s at h k)
 
+  -- on behind the flags
   flags-go : at < length s → flagsB (getD s at 0) ≡ true → commandEnd s at ≡ endAt (afterFlags (getD s at 0)) s (at + 1)
   flags-go h k = command-map s at ∙ both-go (byteF flagsB 0 refl) s at afterFlags (getD s at 0) (at + 1) (byte-got flagsB 0 refl s at h k)
 
+  -- a wrong TTL
   pub command-ttl : (o : ℕ) → at < length s → flagsB (getD s at 0) ≡ true → ttlEnd (bit 3 (getD s at 0)) s (at + 1) ≡ Wrong o → commandEnd s at ≡ Wrong o
   unfolding ttlEnd
   command-ttl o h k q = flags-go h k ∙ both-wrong (ttlF (bit 3 (getD s at 0))) s (at + 1) (λ t. CursorArgs) o q
 
+  -- on behind the TTL
   pub command-go : (e : ℕ) → at < length s → flagsB (getD s at 0) ≡ true → ttlEnd (bit 3 (getD s at 0)) s (at + 1) ≡ At e → commandEnd s at ≡ restEnd s e
   unfolding ttlEnd restEnd
   command-go e h k q =
       let w = some-at (ttlF (bit 3 (getD s at 0))) s (at + 1) (omega arith) e q in
       flags-go h k ∙ both-go (ttlF (bit 3 (getD s at 0))) s (at + 1) (λ t. CursorArgs) (w .value) e (w .got)
 
+-- it lies inside
 pub command-inside : (s : List ℕ) (at e : ℕ) → at ≤ length s → commandEnd s at ≡ At e → e ≤ length s
 unfolding commandEnd
 command-inside s at e h k = some-at commandF s at h e k .got .inside
 
 -- ---- commands
 
+-- where n commands end
 unfoldable pub commandsEnd : List ℕ → ℕ → ℕ → End
 commandsEnd s n at = manyEnd commandF s n at
 
+-- none is left
 pub commands-none : (s : List ℕ) (n at : ℕ) → n ≡ 0 → at ≤ length s → commandsEnd s n at ≡ At at
 unfolding commandsEnd
 commands-none s n at z h = rw z (many-none commandF s at h)
 
+-- one, and the others behind it
 pub commands-go : (s : List ℕ) (n m at e : ℕ) → m ≡ n + 1 → at ≤ length s → commandEnd s at ≡ At e → commandsEnd s m at ≡ commandsEnd s n e
 unfolding commandsEnd commandEnd
 commands-go s n m at e q h k = many-go commandF s n m at e q h k
 
+-- the first is wrong
 pub commands-wrong : (s : List ℕ) (n m at o : ℕ) → m ≡ n + 1 → commandEnd s at ≡ Wrong o → commandsEnd s m at ≡ Wrong o
 unfolding commandsEnd commandEnd
 commands-wrong s n m at o q k = many-wrong commandF s n m at o q k
@@ -206,17 +238,21 @@ module _ (s : List ℕ) (at : ℕ) where
   unfolding tailEnd
   tail-out h = both-wrong (byteF headB 0 refl) s at (λ f. commandsF) (length s) (byte-out headB 0 refl s at h)
 
+  -- wrong flags
   pub tail-flags : at < length s → 2 ≤ getD s at 0 → tailEnd s at ≡ Wrong at
   unfolding tailEnd
   tail-flags h k = both-wrong (byteF headB 0 refl) s at (λ f. commandsF) at (byte-bad headB 0 refl s at h (le-ltb (getD s at 0) 2 k))
 
+  -- on behind the flags
   tail-on : at < length s → getD s at 0 < 2 → tailEnd s at ≡ endAt commandsF s (at + 1)
   unfolding tailEnd
   tail-on h k = both-go (byteF headB 0 refl) s at (λ f. commandsF) (getD s at 0) (at + 1) (byte-got headB 0 refl s at h (lt-ltb (getD s at 0) 2 k))
 
+  -- the count is wrong
   pub tail-count : (o : ℕ) → at < length s → getD s at 0 < 2 → numberEnd 2 maxCommands s (at + 1) ≡ Wrong o → tailEnd s at ≡ Wrong o
   tail-count o h k q = tail-on h k ∙ list-wrong 2 maxCommands count-fits s (at + 1) commandF o q
 
+  -- on to the commands
   pub tail-go : (e n : ℕ) → at < length s → getD s at 0 < 2 → numberEnd 2 maxCommands s (at + 1) ≡ At e → n ≡ read16 s (at + 1) → tailEnd s at ≡ commandsEnd s n e
   unfolding commandsEnd
   tail-go e n h k q z = rw z (tail-on h k ∙ list-go 2 maxCommands count-fits s (at + 1) commandF e (omega arith) q)
@@ -225,13 +261,16 @@ module _ (s : List ℕ) (at : ℕ) where
 unfoldable pub recordEnd : List ℕ → End
 recordEnd s = endAt recordF s 0
 
+-- as its fields
 record-map : (s : List ℕ) → recordEnd s ≡ endAt RecordParts s 0
 unfolding recordEnd
 record-map s = map-end RecordParts s 0 _ _ _ _ _ _
 
+-- the mark or the version is wrong
 pub record-start : (s : List ℕ) (o : ℕ) → wordEnd start s 0 ≡ Wrong o → recordEnd s ≡ Wrong o
 record-start s o q = record-map s ∙ both-wrong (wordF start) s 0 (λ m. FlagsCommands) o (word-end s 0 start ∙ q)
 
+-- on behind them
 pub record-go : (s : List ℕ) (e : ℕ) → wordEnd start s 0 ≡ At e → (e ≤ length s) × (recordEnd s ≡ tailEnd s e)
 unfolding tailEnd
 record-go s e q =
@@ -240,6 +279,7 @@ record-go s e q =
 
 -- ---- the answer
 
+-- a wrong byte, or it ends early
 pub check-wrong : (s : List ℕ) (o : ℕ) → recordEnd s ≡ Wrong o → checkDef s ≡ Bad o
 unfolding recordEnd endAt endOf checkDef checkOf
 check-wrong s o q = go (recordF .read s) q
@@ -260,6 +300,7 @@ left-over s e q u r k =
     let n = recordF .sound s r u k in
     omega (arith, ap length (n .bytes) ∙ length-append (recordF .enc r) u)
 
+-- a record to its end
 pub check-whole : (s : List ℕ) (e : ℕ) → recordEnd s ≡ At e → length s ≤ e → checkDef s ≡ Fine
 unfolding checkDef checkOf recordEnd endAt endOf
 check-whole s e q h = go (recordF .read s) refl q
@@ -270,6 +311,7 @@ check-whole s e q h = go (recordF .read s) refl q
     go (bad m) k q = let z : _≡_ {A = ℕ} 0 1 = cc in absurd (omega arith)
     go short k q = let z : _≡_ {A = ℕ} 0 1 = cc in absurd (omega arith)
 
+-- something trails
 pub check-trails : (s : List ℕ) (e : ℕ) → recordEnd s ≡ At e → e < length s → checkDef s ≡ Bad e
 unfolding checkDef checkOf recordEnd endAt endOf
 check-trails s e q h = go (recordF .read s) refl q

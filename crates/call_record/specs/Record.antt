@@ -36,18 +36,23 @@ pub record Record : Type 0 where
 abbrev pub bit : ℕ → ℕ → Bool
 bit k f = eqb (f / 2 ^ k % 2) 1
 
+-- bit 0 of a record
 abbrev pub transaction : Record → Bool
 transaction r = bit 0 (r .flags)
 
+-- bit 0 of a command
 abbrev pub ignored : Command → Bool
 ignored c = bit 0 (c .flags)
 
+-- bit 1: cache settings present
 abbrev pub settings : Command → Bool
 settings c = bit 1 (c .flags)
 
+-- bit 2: `enable_cache`
 abbrev pub enableCache : Command → Bool
 enableCache c = bit 2 (c .flags)
 
+-- bit 3: client TTL present
 abbrev pub hasTtl : Command → Bool
 hasTtl c = bit 3 (c .flags)
 

@@ -2,8 +2,7 @@
 // specs/Offset.antt, with the theorems in specs/Check.antt. Each function here goes by the format of the same name.
 use format::End;
 ghost use mathlib.Core.Path.{_≡_};
-ghost use mathlib.Core.Bool.{Bool};
-ghost use Prim.Native.Nat.{ℕ, _+_, _*_, _≤_, _<_};
+ghost use Prim.Native.Nat.{_+_, _≤_, _<_};
 ghost use lib.ListN.{length};
 ghost use Rattle.format.specs.Skips.{skipEnd};
 ghost use Rattle.format.specs.Places.{numberEnd, wordEnd};

@@ -1,6 +1,6 @@
 -- Bytes copied into a buffer piece by piece. Assumes nothing.
 use mathlib.Core.Path.{_≡_, refl, sym, ap, _∙_}
-use mathlib.Core.List.{List, [], _∷_, _++_}
+use mathlib.Core.List.{[], _++_}
 use Prim.Native.Nat.{ℕ, _+_, _≤_}
 use native.Mathlib.Omega.{arith}
 use lib.ListN.{length, length-append}
@@ -15,6 +15,7 @@ pub record Copied (d₀ : Bytes) (to : ℕ) (all d : Bytes) (e : ℕ) (rest : By
   pub long : length d ≡ length d₀
   pub ends : e + length rest ≡ to + length all
 
+-- nothing is copied yet
 pub copied-start : (d all : Bytes) (to : ℕ) → to + length all ≤ length d → Copied d to all d to all
 copied-start d all to h = record { same = refl; room = h; long = refl; ends = refl }
 
@@ -32,6 +33,7 @@ copied-next d₀ all d d₁ x rest y to e f q p u w =
       ends = let n = w .ends in omega arith;
     }
 
+-- all is copied
 pub copied-done : (d₀ all d rest : Bytes) (to e : ℕ) → rest ≡ [] → Copied d₀ to all d e rest → d ≡ put d₀ to all
 copied-done d₀ all d rest to e q w = sym (put-nil d e) ∙ ap (put d e) (sym q) ∙ w .same
 

@@ -1,21 +1,19 @@
 -- Arguments joined, one after the other. Assumes nothing.
 use mathlib.Core.Path.{_≡_, refl, sym, ap, ap₂, _∙_}
-use mathlib.Core.Bool.{Bool, true, false, cond}
-use mathlib.Core.List.{List, [], _∷_, _++_, append-nil}
-use Prim.Native.Nat.{ℕ, zero, suc, _+_, _-_, _≤_, _<_}
+use mathlib.Core.Bool.{true, false, cond}
+use mathlib.Core.List.{[], _∷_, _++_}
+use Prim.Native.Nat.{ℕ, _+_, _-_, _≤_, _<_}
 use native.Mathlib.Omega.{arith}
-use native.Mathlib.Nat.{add-zero}
-use native.Mathlib.Numerals.{add-one}
 use lib.Dec.{eqb}
-use lib.ListN.{length, take, drop, length-append, length-take, length-drop, take-append-drop}
+use lib.ListN.{length, take, drop, length-append, length-drop, take-append-drop}
 use lib.Seq.{drop-drop, length-take-le}
 use borrow.Author.Tests.{eqb-true, eqb-false}
 use Rattle.buffer.specs.Cases.{byTest}
 use Rattle.buffer.specs.Same.{Bytes, same, same-append, same-length}
 use Rattle.buffer.specs.Part.{part, length-part}
-use Rattle.cursor.specs.At.{sizeAt, nextAt, argAt, argsAt, ArgIn, ArgsIn}
-use Rattle.cursor.specs.Steps.{in-start, in-more, args-none, args-more}
-use Rattle.cursor.specs.Index.{own, own-is}
+use Rattle.cursor.specs.At.{sizeAt, nextAt, argsAt, ArgIn, ArgsIn}
+use Rattle.cursor.specs.Steps.{in-more, args-none, args-more}
+use Rattle.cursor.specs.Index.{own-is}
 use Rattle.command_key.specs.Copied.{Copied, copied-room}
 use Rattle.command_key.specs.Key.{joined}
 
@@ -29,15 +27,18 @@ joinedAt s m at = joined (argsAt s m at)
 abbrev pub cutAt : Bytes → ℕ → ℕ → Bytes
 cutAt s at n = take (at + 5 + n - (at + 5)) (drop (at + 5) s)
 
+-- no argument is left
 pub joined-none : (s : Bytes) (m at : ℕ) → m ≡ 0 → joinedAt s m at ≡ []
 unfolding joined
 joined-none s m at q = rw (args-none s m at q)
 
+-- the first, and the others
 pub joined-more : (s : Bytes) (m n at : ℕ) → m ≡ n + 1 → ArgsIn s m at → joinedAt s m at ≡ part s (at + 5) (sizeAt s at) ++ joinedAt s n (nextAt s at)
 unfolding joined
 joined-more s m n at q w =
     ap joined (args-more s m n at q) ∙ ap (λ (x : Bytes). x ++ joinedAt s n (nextAt s at)) (own-is s at (in-more s m n at q w .0))
 
+-- how long they are
 pub joined-length : (s : Bytes) (m n at : ℕ) → m ≡ n + 1 → ArgsIn s m at → length (joinedAt s m at) ≡ sizeAt s at + length (joinedAt s n (nextAt s at))
 joined-length s m n at q w =
     let i = in-more s m n at q w .0 .inside in
@@ -50,6 +51,7 @@ pub cut-is : (s : Bytes) (at n : ℕ) → n ≡ sizeAt s at → cutAt s at n ≡
 unfolding part
 cut-is s at n e = let z : at + 5 + n - (at + 5) ≡ sizeAt s at = omega arith in rw z
 
+-- how long it is
 pub cut-length : (s : Bytes) (at n : ℕ) → n ≡ sizeAt s at → ArgIn s at → length (cutAt s at n) ≡ n
 cut-length s at n e w = let i = w .inside in ap length (cut-is s at n e) ∙ length-part s (at + 5) (sizeAt s at) (omega arith) ∙ sym e
 
@@ -66,6 +68,7 @@ cut-room d₀ all d s m n at k to e q w p c = copied-room d₀ all d (cutAt s at
 
 -- ---- compared
 
+-- nothing is left to compare
 pub same-nil : (t : Bytes) (d : ℕ) → d ≤ length t → same (drop d t) [] ≡ eqb d (length t)
 same-nil t d h =
     let l = length-drop d t in
@@ -85,6 +88,7 @@ module _ (s t : Bytes) (m n at d k : ℕ) (q : m ≡ n + 1) (w : ArgsIn s m at) 
       let y = joined-length s m n at q w in
       same-length (drop d t) (joinedAt s m at) (λ z. omega arith)
 
+  -- one piece, and the others
   piece : d + k ≤ length t
       → same (drop d t) (joinedAt s m at) ≡ cond (same (part t d (length (cutAt s at k))) (cutAt s at k)) (same (drop (d + k) t) (joinedAt s n (at + 5 + k))) false
   unfolding part

@@ -1,8 +1,8 @@
 -- By the cases of a command key: what lies inside, and which bytes it stands for. Assumes nothing.
-use mathlib.Core.Path.{_≡_, refl, sym, ap, ap₂, _∙_}
-use mathlib.Core.Bool.{Bool, true, false, cond}
-use mathlib.Core.List.{List, [], _∷_, _++_, append-nil}
-use Prim.Native.Nat.{ℕ, _+_, _-_, _≤_, _<_}
+use mathlib.Core.Path.{_≡_, refl, ap, _∙_}
+use mathlib.Core.Bool.{Bool}
+use mathlib.Core.List.{_++_}
+use Prim.Native.Nat.{_+_, _-_, _≤_}
 use native.Mathlib.Omega.{arith}
 use lib.ListN.{length, take, drop}
 use Rattle.buffer.specs.Same.{Bytes}
@@ -19,13 +19,16 @@ use Rattle.command_key.specs.declared.CommandKey.the-variants.{Part, Joi
 pub range-length : (s : Bytes) (g : Range) → RangeIn s g → length (rangeBytes s g) ≡ g .end - g .start
 range-length s g w = let a = w .0 in let b = w .1 in length-part s (g .start) (g .end - g .start) (omega arith)
 
+-- what is cut out
 abbrev pub cutOf : Bytes → Range → Bytes
 cutOf s g = take (g .end - g .start) (drop (g .start) s)
 
+-- it is the range
 pub range-cut : (s : Bytes) (g : Range) → cutOf s g ≡ rangeBytes s g
 unfolding part
 range-cut s g = refl
 
+-- how long it is
 pub cut-length : (s : Bytes) (g : Range) → RangeIn s g → length (cutOf s g) ≡ g .end - g .start
 cut-length s g w = ap length (range-cut s g) ∙ range-length s g w
 
@@ -36,22 +39,27 @@ module _ (s : Bytes) (key : CommandKey) (w : KeyIn s key) where
   unfolding KeyIn
   part-in g e = rw e at w
 
+  -- a range is the range
   pub part-bytes : (g : Range) → key ≡ Part g → rangeBytes s g ≡ keyBytes s key
   unfolding keyBytes
   part-bytes g e = rw e
 
+  -- the arguments lie inside
   pub joined-in : (k : Args) → key ≡ Joined k → ArgsHere s k
   unfolding KeyIn
   joined-in k e = rw e at w
 
+  -- they are joined
   pub joined-bytes : (k : Args) → key ≡ Joined k → joined (argsOf s k) ≡ keyBytes s key
   unfolding keyBytes
   joined-bytes k e = rw e
 
+  -- key and path lie inside
   pub named-in : (json : Bool) (g p : Range) → key ≡ Named json g p → RangeIn s g × RangeIn s p × (length s ≤ maxBytes)
   unfolding KeyIn
   named-in json g p e = rw e at w
 
+  -- name, key and path
   pub named-bytes : (json : Bool) (g p : Range) → key ≡ Named json g p → nameBytes json ++ (rangeBytes s g ++ rangeBytes s p) ≡ keyBytes s key
   unfolding keyBytes
   named-bytes json g p e = rw e

@@ -1,29 +1,25 @@
 -- A name, a key and a path: how long they are together, compared and copied piece by piece. Assumes nothing.
 use mathlib.Core.Path.{_≡_, refl, sym, ap, ap₂, _∙_}
 use mathlib.Core.Bool.{Bool, true, false, cond}
-use mathlib.Core.List.{List, [], _∷_, _++_, append-nil}
-use Prim.Native.Nat.{ℕ, _+_, _-_, _≤_, _<_}
+use mathlib.Core.List.{[], _++_, append-nil}
+use Prim.Native.Nat.{ℕ, _+_, _-_, _≤_}
 use native.Mathlib.Omega.{arith}
-use lib.ListN.{length, take, drop, length-append}
+use lib.ListN.{length, length-append}
 use Rattle.buffer.specs.Same.{Bytes, same, same-append, same-length}
 use Rattle.buffer.specs.Part.{part, part-all, part-add, put, length-part}
 use Rattle.cursor.specs.At.{rangeBytes, RangeIn}
 use Rattle.cursor.specs.declared.Range.{Range}
 use Rattle.command_key.specs.Key.{nameBytes}
-use Rattle.command_key.specs.Copied.{Copied, copied-start, copied-next, copied-done}
+use Rattle.command_key.specs.Copied.{copied-start, copied-next, copied-done}
 use Rattle.command_key.specs.Keys.{range-length, cutOf, range-cut, cut-length}
 
-pub name-long : (json : Bool) → json ≡ true → nameBytes json ≡ nameBytes true
-name-long json e = rw e
-
-pub name-short : (json : Bool) → json ≡ false → nameBytes json ≡ nameBytes false
-name-short json e = rw e
-
+-- a name is short
 pub name-length : (json : Bool) → length (nameBytes json) ≤ 8
 unfolding nameBytes
 name-length true = omega arith
 name-length false = omega arith
 
+-- how long they are together
 pub named-length : (s : Bytes) (json : Bool) (g p : Range) → RangeIn s g → RangeIn s p
     → length (nameBytes json ++ (rangeBytes s g ++ rangeBytes s p)) ≡ length (nameBytes json) + (g .end - g .start) + (p .end - p .start)
 named-length s json g p v w =
@@ -77,6 +73,7 @@ pub record Space (s : Bytes) (json : Bool) (g p : Range) : Type 0 where
   pub key : length (cutOf s g) ≡ g .end - g .start
   pub path : length (cutOf s p) ≡ p .end - p .start
 
+-- both ranges lie inside
 pub space : (s : Bytes) (json : Bool) (g p : Range) → RangeIn s g → RangeIn s p → Space s json g p
 space s json g p v w = record { all = named-length s json g p v w; name = name-length json; key = cut-length s g v; path = cut-length s p w }
 

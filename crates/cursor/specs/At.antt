@@ -1,9 +1,9 @@
 -- What stands at a place of a call record: its arguments, its commands and the whole, read off the bytes by their positions. On the bytes of
 -- a valid record this is the record (`decoded` in Laws.antt). Definitions alone; nothing is assumed.
 use mathlib.Core.Path.{_≡_}
-use mathlib.Core.Bool.{Bool, true, false, cond}
+use mathlib.Core.Bool.{Bool, false, cond}
 use mathlib.Core.List.{List, [], _∷_}
-use Prim.Native.Nat.{ℕ, zero, suc, _+_, _-_, _≤_, _<_}
+use Prim.Native.Nat.{ℕ, zero, suc, _+_, _-_, _≤_}
 use lib.Dec.{eqb}
 use lib.ListN.{length, getD}
 use Rattle.buffer.specs.Same.{Bytes}
@@ -28,9 +28,11 @@ RangeIn s g = (g .start ≤ g .end) × (g .end ≤ length s)
 abbrev pub sizeAt : Bytes → ℕ → ℕ
 sizeAt s at = read32 s (at + 1)
 
+-- where it ends
 abbrev pub nextAt : Bytes → ℕ → ℕ
 nextAt s at = at + 5 + sizeAt s at
 
+-- an argument by its kind
 abbrev pub argumentIf : Bool → Bytes → Argument
 argumentIf b t = cond b (simple t) cursor
 
@@ -43,6 +45,7 @@ unfoldable pub argsAt : Bytes → ℕ → ℕ → List Argument
 argsAt s zero at = []
 argsAt s (suc n) at = argAt s at ∷ argsAt s n (nextAt s at)
 
+-- where they end
 unfoldable pub argsEnd : Bytes → ℕ → ℕ → ℕ
 argsEnd s zero at = at
 argsEnd s (suc n) at = argsEnd s n (nextAt s at)
@@ -95,6 +98,7 @@ unfoldable pub CommandsIn : Bytes → ℕ → ℕ → Type 0
 CommandsIn s zero at = at ≤ length s
 CommandsIn s (suc n) at = (at + 19 ≤ length s) × ArgsIn s (read16 s (at + 17)) (at + 19) × CommandsIn s n (commandNext s at)
 
+-- the commands that a cursor over them has before it
 abbrev pub commandsOf : Bytes → Commands → List Command
 commandsOf s k = commandsAt s (k .left) (k .at)
 
@@ -107,5 +111,6 @@ CommandsHere s k = CommandsIn s (k .left) (k .at)
 abbrev pub commandCursor : Bytes → Commands
 commandCursor s = record { at = 8; left = read16 s 6 }
 
+-- the record that the bytes are, if they are one
 unfoldable pub recordAt : Bytes → Record
 recordAt s = record { flags = getD s 5 0; commands = commandsOf s (commandCursor s) }

@@ -1,8 +1,8 @@
 -- `arg_idx`: an argument by its number, as in cmd.rs; and the bytes that arguments add to `cmd.data`. Assumes nothing.
-use mathlib.Core.Path.{_≡_, refl, sym, ap, ap₂, _∙_}
-use mathlib.Core.Bool.{Bool, true, false, cond, true≢false}
-use mathlib.Core.List.{List, [], _∷_, _++_}
-use Prim.Native.Nat.{ℕ, zero, suc, _+_, _-_, _≤_, _<_}
+use mathlib.Core.Path.{_≡_, ap, _∙_}
+use mathlib.Core.Bool.{cond}
+use mathlib.Core.List.{List, [], _∷_}
+use Prim.Native.Nat.{ℕ, zero, suc, _+_, _-_}
 use native.Mathlib.Omega.{arith}
 use native.Mathlib.Numerals.{add-one}
 use lib.Dec.{eqb}
@@ -12,7 +12,7 @@ use Rattle.buffer.specs.Cases.{byTest}
 use Rattle.buffer.specs.Same.{Bytes}
 use Rattle.buffer.specs.Part.{part, length-part}
 use Rattle.call_record.specs.Record.{Argument, simple, cursor}
-use Rattle.cursor.specs.At.{rangeBytes, RangeIn, sizeAt, nextAt, argumentIf, argAt, argsAt, ArgIn, ArgsIn}
+use Rattle.cursor.specs.At.{rangeBytes, RangeIn, sizeAt, nextAt, argAt, argsAt, ArgIn, ArgsIn}
 use Rattle.cursor.specs.Steps.{in-more, args-none, args-more}
 use Rattle.cursor.specs.declared.ArgAt.{ArgAt}
 use Rattle.cursor.specs.declared.ArgAt.the-variants.{Found, NotThere}
@@ -32,6 +32,7 @@ abbrev pub argText : ℕ → Argument → Text
 argText n (simple b) = cond (eqb (n + length b) 0) none (text b)
 argText n cursor = none
 
+-- argument i, with n bytes before the first
 abbrev pub argIdxFrom : ℕ → List Argument → ℕ → Text
 argIdxFrom n [] i = none
 argIdxFrom n (a ∷ l) zero = argText n a
@@ -57,6 +58,7 @@ pub own-is : (s : Bytes) (at : ℕ) → ArgIn s at → own (argAt s at) ≡ part
 unfolding part
 own-is s at w = byTest (eqb (getD s at 0) 0) (λ t. rw t) (λ t. let z = w .empty t in rw (t, z))
 
+-- how many they are
 pub own-length : (s : Bytes) (at : ℕ) → ArgIn s at → length (own (argAt s at)) ≡ sizeAt s at
 own-length s at w = let i = w .inside in ap length (own-is s at w) ∙ length-part s (at + 5) (sizeAt s at) (omega arith)
 

@@ -2,20 +2,19 @@
 use mathlib.Core.Path.{_≡_, refl, sym, ap, ap₂, _∙_}
 use mathlib.Core.Bool.{true, true≢false}
 use mathlib.Core.List.{List, [], _∷_, _++_, append-nil}
-use Prim.Native.Nat.{ℕ, zero, suc, _+_, _-_, _*_, _^_, _≤_, _<_}
+use Prim.Native.Nat.{ℕ, suc, _+_, _-_, _≤_}
 use native.Mathlib.Omega.{arith}
-use native.Mathlib.Numerals.{add-one}
 use lib.Dec.{eqb}
 use lib.ListN.{length, getD, length-append}
 use borrow.Author.Tests.{eq-eqb, ne-eqb}
 use Rattle.buffer.specs.Same.{Bytes}
 use Rattle.buffer.specs.Part.{part}
-use Rattle.buffer.specs.Field.{le, le16, le32, le64, read16, read32, read64, length-le}
+use Rattle.buffer.specs.Field.{le, le16, le32, le64, read16, read64, length-le}
 use Rattle.format.specs.Runs.{encAll, All}
-use Rattle.call_record.specs.Record.{Argument, simple, cursor, Command, Record, mark, encArgument, encCommand, encRecord, ValidArgument, ValidCommand, ValidRecord}
+use Rattle.call_record.specs.Record.{Argument, simple, cursor, Command, Record, encArgument, encCommand, encRecord, ValidArgument, ValidCommand, ValidRecord}
 use Rattle.call_record.specs.Offset.{IsRecord}
 use Rattle.cursor.specs.Lies.{Lies, lies-left, lies-right, lies-inside, lies-head, lies-part, lies-number}
-use Rattle.cursor.specs.At.{sizeAt, nextAt, argumentIf, argAt, argsAt, argsEnd, ArgIn, ArgsIn, headAt, commandOf, commandNext, commandsAt, CommandsIn, commandCursor, recordAt}
+use Rattle.cursor.specs.At.{sizeAt, nextAt, argAt, argsAt, argsEnd, ArgIn, ArgsIn, headAt, commandOf, commandNext, commandsAt, CommandsIn, recordAt}
 
 -- ---- an argument
 
@@ -25,6 +24,7 @@ record ArgRead (s : Bytes) (at : ℕ) (a : Argument) : Type 0 where
   ends : nextAt s at ≡ at + length (encArgument a)
   is : argAt s at ≡ a
 
+-- a valid argument is read where it stands
 arg-read : (s : Bytes) (at : ℕ) (a : Argument) → ValidArgument a → Lies s at (encArgument a) → ArgRead s at a
 unfolding encArgument ValidArgument
 arg-read s at (simple b) v w =
@@ -62,6 +62,7 @@ record ArgsRead (s : Bytes) (n at : ℕ) (l : List Argument) : Type 0 where
   ends : argsEnd s n at ≡ at + length (encAll encArgument l)
   are : argsAt s n at ≡ l
 
+-- so are arguments
 args-read : (s : Bytes) (l : List Argument) (n at : ℕ) → n ≡ length l → All ValidArgument l → Lies s at (encAll encArgument l) → ArgsRead s n at l
 unfolding ArgsIn argsEnd argsAt
 args-read s [] n at q v w = rw q (record { inside = let i = lies-inside s at [] w in omega arith; ends = omega arith; are = refl })
@@ -84,6 +85,7 @@ record CommandRead (s : Bytes) (at : ℕ) (c : Command) : Type 0 where
   ends : commandNext s at ≡ at + length (encCommand c)
   is : commandOf s (headAt s at) ≡ c
 
+-- so is a command
 command-read : (s : Bytes) (at : ℕ) (c : Command) → ValidCommand c → Lies s at (encCommand c) → CommandRead s at c
 unfolding encCommand
 command-read s at c v w =
@@ -120,6 +122,7 @@ record CommandsRead (s : Bytes) (n at : ℕ) (l : List Command) : Type 0 where
   inside : CommandsIn s n at
   are : commandsAt s n at ≡ l
 
+-- so are commands
 commands-read : (s : Bytes) (l : List Command) (n at : ℕ) → n ≡ length l → All ValidCommand l → Lies s at (encAll encCommand l) → CommandsRead s n at l
 unfolding CommandsIn commandsAt
 commands-read s [] n at q v w = rw q (record { inside = let i = lies-inside s at [] w in omega arith; are = refl })
@@ -140,6 +143,7 @@ pub record Decoded (s : Bytes) (r : Record) : Type 0 where
   pub inside : CommandsIn s (read16 s 6) 8
   pub is : recordAt s ≡ r
 
+-- THE RECORD: read by their positions, the bytes of a valid record are that record
 pub decoded : (s : Bytes) (r : Record) → ValidRecord r → s ≡ encRecord r → Decoded s r
 unfolding encRecord recordAt le
 decoded s r v e =

@@ -1,8 +1,8 @@
 // Cursors over the commands of a call record and over a command's arguments, in the order of `args_iter`. The record was checked:
 // specs/At.antt says what stands at a place, and that this is the record is the theorem `decoded` of specs/Laws.antt.
 ghost use mathlib.Core.Path.{_≡_};
-ghost use Prim.Native.Nat.{ℕ, _+_, _≤_, _<_};
-ghost use lib.ListN.{length, getD};
+ghost use Prim.Native.Nat.{_+_, _≤_};
+ghost use lib.ListN.{length};
 ghost use Rattle.call_record.specs.Record.{transaction};
 ghost use Rattle.cursor.specs.At.{rangeBytes, RangeIn, argsAt, argsEnd, ArgsIn, argsOf, ArgsHere, headAt, CommandsHere, commandCursor, recordAt};
 ghost use Rattle.cursor.specs.Steps.{argStep, commandStep};

@@ -46,6 +46,7 @@ module _ {A : Type 0} (f : Format A) (s : List ℕ) (at : ℕ) where
       let d : drop (at + n) s ≡ u = sym (drop-drop n at s) ∙ ap (drop n) (i .bytes) ∙ drop-append-seam (f .enc a) u in
       record { is = k ∙ ap (ok a) (sym d ∙ ap (λ (m : ℕ). drop m s) (sym e)); ends = e; inside = omega arith }
 
+  -- where something ends, it was read
   pub some-at : at ≤ length s → (e : ℕ) → endAt f s at ≡ At e → Some f s at e
   unfolding endAt endOf
   some-at h e q = go (f .read (drop at s)) refl q
@@ -55,6 +56,7 @@ module _ {A : Type 0} (f : Format A) (s : List ℕ) (at : ℕ) where
       go (bad o) k q = let z : _≡_ {A = ℕ} 0 1 = cc in absurd (omega arith)
       go short k q = let z : _≡_ {A = ℕ} 0 1 = cc in absurd (omega arith)
 
+  -- where something was read, it ends
   pub at-some : (a : A) (e : ℕ) → Got f s at a e → endAt f s at ≡ At e
   unfolding endAt endOf
   at-some a e g = let l = length-drop e s in let h = g .inside in rw (g .is) (ap At (omega arith))
@@ -104,10 +106,12 @@ module _ (p : ℕ → Bool) (w : ℕ) (h : p w ≡ true) (s : List ℕ) (at : �
         inside = omega arith;
       }
 
+  -- a byte that does not pass
   pub byte-bad : at < length s → p (getD s at 0) ≡ false → endAt (byteF p w h) s at ≡ Wrong at
   unfolding readByte endAt endOf
   byte-bad l t = let e : drop at s ≡ getD s at 0 ∷ drop (at + 1) s = rw add-one (drop-cons s at 0 l) in rw (e, t) (ap Wrong (omega arith))
 
+  -- no byte
   pub byte-out : length s ≤ at → endAt (byteF p w h) s at ≡ Wrong (length s)
   unfolding readByte endAt endOf
   byte-out l = rw (drop-of-length-le s {i = at} l)
@@ -119,14 +123,17 @@ module _ {A : Type 0} (f : Format A) (s : List ℕ) where
   unfoldable pub manyEnd : ℕ → ℕ → End
   manyEnd n at = endAt (rep f n .form) s at
 
+  -- the same for the format of n
   pub many-is : (n at : ℕ) → endAt (manyF f n) s at ≡ manyEnd n at
   unfolding manyEnd
   many-is n at = map-end (rep f n .form) s at _ _ _ _ _ _
 
+  -- none is left
   pub many-none : (at : ℕ) → at ≤ length s → manyEnd 0 at ≡ At at
   unfolding manyEnd rep endAt endOf
   many-none at h = ap At (omega (arith, length-drop at s))
 
+  -- one, and the others behind it
   pub many-go : (n m at e : ℕ) → m ≡ n + 1 → at ≤ length s → endAt f s at ≡ At e → manyEnd m at ≡ manyEnd n e
   unfolding manyEnd rep
   many-go n m at e q h k =
@@ -134,12 +141,14 @@ module _ {A : Type 0} (f : Format A) (s : List ℕ) where
       let z : m ≡ suc n = q ∙ add-one n in
       rw z (map-end (bothF f (λ a. rep f n .form)) s at _ _ _ _ _ _ ∙ both-go f s at (λ a. rep f n .form) (w .value) e (w .got))
 
+  -- the first is wrong
   pub many-wrong : (n m at o : ℕ) → m ≡ n + 1 → endAt f s at ≡ Wrong o → manyEnd m at ≡ Wrong o
   unfolding manyEnd rep
   many-wrong n m at o q k =
       let z : m ≡ suc n = q ∙ add-one n in
       rw z (map-end (bothF f (λ a. rep f n .form)) s at _ _ _ _ _ _ ∙ both-wrong f s at (λ a. rep f n .form) o k)
 
+  -- they lie inside
   pub many-inside : (n at e : ℕ) → at ≤ length s → manyEnd n at ≡ At e → (at ≤ e) × (e ≤ length s)
   unfolding manyEnd
   many-inside n at e h k = let w = some-at (rep f n .form) s at h e k in let z = w .got .ends in (omega arith, w .got .inside)

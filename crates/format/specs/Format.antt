@@ -51,24 +51,31 @@ module _ {A : Type 0} (a : A) where
   abbrev pub IsIt : A → Type 0
   IsIt x = x ≡ a
 
+  -- written as nothing
   abbrev pub noBytes : A → List ℕ
   noBytes x = []
 
+  -- read off nothing
   abbrev pub readNone : List ℕ → Read A
   readNone s = ok a s
 
+  -- the value is read
   pub none-complete : (x : A) (u : List ℕ) → x ≡ a → readNone u ≡ ok x u
   none-complete x u h = rw h
 
+  -- only the value is read
   pub none-sound : (s : List ℕ) (x : A) (u : List ℕ) → readNone s ≡ ok x u → Is noBytes IsIt s x u
   none-sound s x u e = let y : x ≡ a = cc in let z : s ≡ u = cc in record { fine = y; bytes = z }
 
+  -- no byte is wrong
   pub none-stuck : (s : List ℕ) (o : ℕ) → readNone s ≡ bad o → Stuck readNone noBytes IsIt s o
   none-stuck s o e = let z : _≡_ {A = ℕ} 0 1 = cc in absurd (omega arith)
 
+  -- nothing ends early
   pub none-early : (s : List ℕ) → readNone s ≡ short → Begins noBytes IsIt s
   none-early s e = let z : _≡_ {A = ℕ} 0 1 = cc in absurd (omega arith)
 
+  -- the format without bytes
   abbrev pub noneF : Format A
   noneF =
       record {
@@ -89,6 +96,7 @@ unfoldable pub readByte : (ℕ → Bool) → List ℕ → Read ℕ
 readByte p [] = short
 readByte p (x ∷ xs) = cond (p x) (ok x xs) (bad 0)
 
+-- a byte as it is written
 abbrev pub encByte : ℕ → List ℕ
 encByte x = x ∷ []
 
@@ -96,6 +104,7 @@ module _ (p : ℕ → Bool) where
   abbrev pub Passes : ℕ → Type 0
   Passes x = p x ≡ true
 
+  -- what is read passed
   pub byte-sound : (s : List ℕ) (a : ℕ) (u : List ℕ) → readByte p s ≡ ok a u → Is encByte Passes s a u
   unfolding readByte
   byte-sound [] a u e = let z : _≡_ {A = ℕ} 0 1 = cc in absurd (omega arith)
@@ -106,6 +115,7 @@ module _ (p : ℕ → Bool) where
       record { fine = rw h at t; bytes = cc })
       (λ t. let k : bad 0 ≡ ok a u = rw t at e in let z : _≡_ {A = ℕ} 0 1 = cc in absurd (omega arith))
 
+  -- a byte that does not pass is wrong
   pub byte-stuck : (w : ℕ) → p w ≡ true → (s : List ℕ) (o : ℕ) → readByte p s ≡ bad o → Stuck (readByte p) encByte Passes s o
   unfolding readByte
   byte-stuck w h [] o e = let z : _≡_ {A = ℕ} 0 1 = cc in absurd (omega arith)
@@ -116,6 +126,7 @@ module _ (p : ℕ → Bool) where
       let z : 0 ≡ o = cc in
       rw (← z) (record { inside = omega arith; stops = λ r. rw t; before = record { value = w; rest = w ∷ []; fine = h; bytes = refl } }))
 
+  -- without a byte it ends early
   pub byte-early : (w : ℕ) → p w ≡ true → (s : List ℕ) → readByte p s ≡ short → Begins encByte Passes s
   unfolding readByte
   byte-early w h [] e = record { value = w; rest = w ∷ []; fine = h; bytes = refl }
@@ -124,10 +135,12 @@ module _ (p : ℕ → Bool) where
       (λ t. let k : ok x xs ≡ short = rw t at e in let z : _≡_ {A = ℕ} 0 1 = cc in absurd (omega arith))
       (λ t. let k : _≡_ {A = Read ℕ} (bad 0) short = rw t at e in let z : _≡_ {A = ℕ} 0 1 = cc in absurd (omega arith))
 
+  -- a byte that passes is read
   pub byte-complete : (a : ℕ) (u : List ℕ) → p a ≡ true → readByte p (encByte a ++ u) ≡ ok a u
   unfolding readByte
   byte-complete a u h = rw h
 
+  -- the format of a byte that passes, as w does
   abbrev pub byteF : (w : ℕ) → p w ≡ true → Format ℕ
   byteF w h =
       record {

@@ -1,13 +1,14 @@
 -- The same bytes as other values: their format, with the laws. Assumes nothing.
 use mathlib.Core.Path.{_≡_, refl, sym, ap, _∙_}
-use mathlib.Core.List.{List, [], _∷_, _++_, append-assoc}
+use mathlib.Core.List.{List, [], _++_}
 use Prim.Native.Nat.{ℕ, _+_}
 use native.Mathlib.Omega.{arith}
-use lib.ListN.{length, take, length-append}
+use lib.ListN.{take}
 use Rattle.format.specs.Format.{Read, ok, bad, short, Begins, Stuck, Is, Format}
 
 -- ---- the same bytes as other values
 
+-- what was read, as another value
 abbrev pub mapRead : {A : Type 0} {B : Type 0} → (A → B) → Read A → Read B
 mapRead to (ok a u) = ok (to a) u
 mapRead to (bad o) = bad o
@@ -27,12 +28,14 @@ module _ {A : Type 0} {B : Type 0} (f : Format A) (to : A → B) (enc : B → Li
   map-begins s b =
       record { value = to (b .value); rest = b .rest; fine = kept (b .value) (b .fine); bytes = written (b .value) (b .fine) ∙ b .bytes }
 
+  -- what is valid is read
   pub map-complete : (b : B) (u : List ℕ) → valid b → mapRead to (f .read (enc b ++ u)) ≡ ok b u
   map-complete b u h =
       let w = onto b h in
       let e : enc b ≡ f .enc (w .value) = ap enc (sym (w .same)) ∙ written (w .value) (w .fine) in
       rw (e, f .complete (w .value) u (w .fine), w .same)
 
+  -- what is read was valid and so written
   pub map-sound : (s : List ℕ) (b : B) (u : List ℕ) → mapRead to (f .read s) ≡ ok b u → Is enc valid s b u
   map-sound s b u = go (f .read s) refl
     where
@@ -45,6 +48,7 @@ module _ {A : Type 0} {B : Type 0} (f : Format A) (to : A → B) (enc : B → Li
       go (bad m) e q = let z : _≡_ {A = ℕ} 0 1 = cc in absurd (omega arith)
       go short e q = let z : _≡_ {A = ℕ} 0 1 = cc in absurd (omega arith)
 
+  -- the same byte is wrong
   pub map-stuck : (s : List ℕ) (o : ℕ) → mapRead to (f .read s) ≡ bad o → Stuck (λ s. mapRead to (f .read s)) enc valid s o
   map-stuck s o = go (f .read s) refl
     where
@@ -56,6 +60,7 @@ module _ {A : Type 0} {B : Type 0} (f : Format A) (to : A → B) (enc : B → Li
           record { inside = j .inside; stops = λ t. rw (j .stops t); before = map-begins (take o s) (j .before) }
       go short e q = let z : _≡_ {A = ℕ} 0 1 = cc in absurd (omega arith)
 
+  -- what ends early begins a valid value
   pub map-early : (s : List ℕ) → mapRead to (f .read s) ≡ short → Begins enc valid s
   map-early s = go (f .read s) refl
     where
@@ -64,6 +69,7 @@ module _ {A : Type 0} {B : Type 0} (f : Format A) (to : A → B) (enc : B → Li
       go (bad m) e q = let z : _≡_ {A = ℕ} 0 1 = cc in absurd (omega arith)
       go short e q = map-begins s (f .early s e)
 
+  -- the format of the other values
   abbrev pub mapF : Format B
   mapF =
       record {

@@ -2,12 +2,12 @@
 -- follows. Assumes nothing.
 use mathlib.Core.Path.{_≡_, refl, sym, ap, ap₂, _∙_}
 use mathlib.Core.Bool.{Bool, true, false, cond}
-use mathlib.Core.List.{List, [], _∷_, _++_}
+use mathlib.Core.List.{List, _∷_}
 use Prim.Native.Nat.{ℕ, zero, suc, _+_, _-_, _*_, _/_, _%_, _^_, _≤_, _<_}
 use native.Mathlib.Omega.{arith}
 use native.Mathlib.Nat.{pow-succ'}
 use lib.Dec.{leb, ltb}
-use borrow.Author.Tests.{lt-ltb, le-ltb, ltb-true, le-leb, leb-true, lt-leb}
+use borrow.Author.Tests.{lt-ltb, ltb-true, le-leb, leb-true, lt-leb}
 use Rattle.buffer.specs.Cases.{byTest}
 use Rattle.buffer.specs.Field.{le}
 use Rattle.format.specs.Format.{Format, noneF, byteF}
@@ -18,12 +18,15 @@ use Rattle.format.specs.Map.{From, mapF}
 abbrev pub digitB : ℕ → ℕ → Bool
 digitB m b = cond (ltb b 256) (leb b m) false
 
+-- which bytes pass
 pub digit-yes : (m b : ℕ) → b < 256 → b ≤ m → digitB m b ≡ true
 digit-yes m b h k = rw (lt-ltb b 256 h, le-leb b m k)
 
+-- which do not
 pub digit-no : (m b : ℕ) → m < b → digitB m b ≡ false
 digit-no m b h = byTest (ltb b 256) (λ t. rw (t, lt-leb b m h)) (λ t. rw t)
 
+-- what passing says
 pub digit-is : (m b : ℕ) → digitB m b ≡ true → (b < 256) × (b ≤ m)
 digit-is m b e =
     byTest (ltb b 256)
@@ -34,12 +37,15 @@ digit-is m b e =
 abbrev pub UpTo : ℕ → ℕ → ℕ → Type 0
 UpTo w m n = (n < 256 ^ w) × (n ≤ m)
 
+-- the number of a first byte and the rest
 abbrev pub pairOf : ℕ × ℕ → ℕ
 pairOf x = x .0 + 256 * x .1
 
+-- 0 always passes
 pub digit-zero : (m : ℕ) → digitB m 0 ≡ true
 digit-zero m = digit-yes m 0 (omega arith) (omega arith)
 
+-- the first byte
 abbrev pub digitF : ℕ → Format ℕ
 digitF m = byteF (digitB m) 0 (digit-zero m)
 
@@ -60,6 +66,7 @@ module _ (w m : ℕ) (rest : (b : ℕ) → Upto w (restOf m b)) where
   abbrev pub Digits : Format (ℕ × ℕ)
   Digits = bothF (digitF m) (λ b. rest b .form)
 
+  -- the bytes are those of the number
   pub digits-written : (x : ℕ × ℕ) → Digits .valid x → le (suc w) (pairOf x) ≡ Digits .enc x
   unfolding le
   digits-written x h =
@@ -69,6 +76,7 @@ module _ (w m : ℕ) (rest : (b : ℕ) → Upto w (restOf m b)) where
       let q : pairOf x / 256 ≡ x .1 = omega arith in
       ap₂ (λ (b : ℕ) (l : List ℕ). b ∷ l) p (ap (le w) q ∙ sym (rest (x .0) .enc-is (x .1)))
 
+  -- the number is at most m
   pub digits-kept : (x : ℕ × ℕ) → Digits .valid x → UpTo (suc w) m (pairOf x)
   digits-kept x h =
       let d = digit-is m (x .0) (h .0) in
@@ -80,6 +88,7 @@ module _ (w m : ℕ) (rest : (b : ℕ) → Upto w (restOf m b)) where
       let p = pow-succ' 256 w in
       (rw p (omega arith), omega arith)
 
+  -- every such number has its bytes
   pub digits-onto : (n : ℕ) → UpTo (suc w) m n → From (Digits .valid) pairOf n
   digits-onto n h =
       let i : n < 256 * 256 ^ w = rw (pow-succ' 256 w) at (h .0) in
@@ -90,9 +99,11 @@ module _ (w m : ℕ) (rest : (b : ℕ) → Upto w (restOf m b)) where
         same = omega arith;
       }
 
+  -- one byte more
   abbrev pub moreF : Format ℕ
   moreF = mapF Digits pairOf (le (suc w)) (UpTo (suc w) m) digits-written digits-kept digits-onto
 
+-- the format for w bytes
 unfoldable pub upto : (w m : ℕ) → Upto w m
 unfolding le
 upto zero m =

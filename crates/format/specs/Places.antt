@@ -1,23 +1,20 @@
 -- What code finds at a place: numbers, given bytes, texts and lists, one law for each way that it can go on. Assumes nothing.
 use mathlib.Core.Path.{_≡_, refl, sym, ap, _∙_}
-use mathlib.Core.Bool.{Bool, true, false}
 use mathlib.Core.List.{List, [], _∷_, _++_}
-use Prim.Native.Nat.{ℕ, zero, suc, _+_, _-_, _^_, _≤_, _<_}
+use Prim.Native.Nat.{ℕ, suc, _+_, _-_, _^_, _≤_, _<_}
 use native.Mathlib.Omega.{arith}
 use native.Mathlib.Numerals.{add-one}
-use native.Mathlib.Nat.{add-zero}
 use lib.Dec.{eqb}
 use lib.ListN.{length, take, drop, getD, length-drop, take-append-drop}
 use lib.Seq.{length-take-le}
 use borrow.Author.Tests.{eq-eqb, ne-eqb}
-use Rattle.buffer.specs.Field.{Octets, le, readLe, length-le, read-at}
-use Rattle.format.specs.Format.{Format, byteF}
+use Rattle.buffer.specs.Field.{Octets, readLe, length-le, read-at}
+use Rattle.format.specs.Format.{Format}
 use Rattle.format.specs.Both.{bothF}
-use Rattle.format.specs.Map.{mapF}
-use Rattle.format.specs.Runs.{bytesF, manyF, rep}
+use Rattle.format.specs.Runs.{bytesF, manyF}
 use Rattle.format.specs.Numbers.{digitB, digit-yes, digit-no, digit-zero, digitF, Digits, restOf, upto, numberF}
 use Rattle.format.specs.Words.{litF, word, wordF, listF, textF}
-use Rattle.format.specs.Ends.{endAt, endOf, Got, Some, some-at, at-some, both-go, both-wrong, map-end, byte-got, byte-bad, byte-out, manyEnd, many-is, many-inside}
+use Rattle.format.specs.Ends.{endAt, endOf, Got, some-at, both-go, both-wrong, map-end, byte-got, byte-bad, byte-out, manyEnd, many-is}
 use Rattle.format.specs.Skips.{skipEnd, skips-end, skip-bytes}
 use Rattle.format.specs.declared.End.{End}
 use Rattle.format.specs.declared.End.the-variants.{At, Wrong}
@@ -33,20 +30,24 @@ byte-map : (w m : ℕ) (s : List ℕ) (at : ℕ) → numberEnd (suc w) m s at �
 unfolding numberEnd upto
 byte-map w m s at = map-end (Digits w m (λ b. upto w (restOf m b))) s at _ _ _ _ _ _
 
+-- no byte is left
 pub number-none : (m : ℕ) (s : List ℕ) (at : ℕ) → at ≤ length s → numberEnd 0 m s at ≡ At at
 unfolding numberEnd upto endAt endOf
 number-none m s at h = ap At (omega (arith, length-drop at s))
 
+-- the bytes end
 pub number-out : (w v m : ℕ) (s : List ℕ) (at : ℕ) → v ≡ w + 1 → length s ≤ at → numberEnd v m s at ≡ Wrong (length s)
 number-out w v m s at q h =
     let z : v ≡ suc w = q ∙ add-one w in
     rw z (byte-map w m s at ∙ both-wrong (digitF m) s at (λ b. upto w (restOf m b) .form) (length s) (byte-out (digitB m) 0 (digit-zero m) s at h))
 
+-- the byte makes more than m
 pub number-bad : (w v m : ℕ) (s : List ℕ) (at : ℕ) → v ≡ w + 1 → at < length s → m < getD s at 0 → numberEnd v m s at ≡ Wrong at
 number-bad w v m s at q h k =
     let z : v ≡ suc w = q ∙ add-one w in
     rw z (byte-map w m s at ∙ both-wrong (digitF m) s at (λ b. upto w (restOf m b) .form) at (byte-bad (digitB m) 0 (digit-zero m) s at h (digit-no m (getD s at 0) k)))
 
+-- the byte is fine
 pub number-go : (w v m : ℕ) (s : List ℕ) (at : ℕ) → v ≡ w + 1 → at < length s → getD s at 0 < 256 → getD s at 0 ≤ m
     → numberEnd v m s at ≡ numberEnd w (restOf m (getD s at 0)) s (at + 1)
 unfolding numberEnd
@@ -74,6 +75,7 @@ module _ (w m : ℕ) (q : m < 256 ^ w) (s : List ℕ) (at : ℕ) where
         omega arith,
       )
 
+  -- where it ends, its bytes spell it
   pub number-is : (e : ℕ) → at ≤ length s → numberEnd w m s at ≡ At e → Got (numberF w m q) s at (readLe w s at) e × (e ≡ at + w) × (e ≤ length s)
   number-is e h k =
       let x = some-at (numberF w m q) s at h e (number-end ∙ k) in
@@ -86,6 +88,7 @@ number-inside w m s at q e h k = let g = number-is w m q s at e h k in (g .1, g 
 
 -- ---- the given bytes bs
 
+-- where they end
 unfoldable pub wordEnd : List ℕ → List ℕ → ℕ → End
 wordEnd bs s at = endAt (word bs .form) s at
 
@@ -94,6 +97,7 @@ module _ (s : List ℕ) (at : ℕ) where
   unfolding wordEnd
   word-end bs = map-end (word bs .form) s at _ _ _ _ _ _
 
+  -- none is left
   pub word-none : at ≤ length s → wordEnd [] s at ≡ At at
   unfolding wordEnd word endAt endOf
   word-none h = ap At (omega (arith, length-drop at s))
@@ -128,12 +132,15 @@ module _ (w m : ℕ) (q : m < 256 ^ w) (s : List ℕ) (at : ℕ) where
     pub list-go : (e : ℕ) → at ≤ length s → numberEnd w m s at ≡ At e → endAt (listF w m q f) s at ≡ manyEnd f s (readLe w s at) e
     list-go e h k = list-map ∙ both-go (numberF w m q) s at (λ n. manyF f n) (readLe w s at) e (number-is w m q s at e h k .0) ∙ many-is f s (readLe w s at) e
 
+  -- as its length and its bytes
   text-map : endAt (textF w m q) s at ≡ endAt (bothF (numberF w m q) (λ n. bytesF n)) s at
   text-map = map-end (bothF (numberF w m q) (λ n. bytesF n)) s at _ _ _ _ _ _
 
+  -- its length is wrong
   pub text-wrong : (o : ℕ) → numberEnd w m s at ≡ Wrong o → endAt (textF w m q) s at ≡ Wrong o
   text-wrong o k = text-map ∙ both-wrong (numberF w m q) s at (λ n. bytesF n) o (number-end w m q s at ∙ k)
 
+  -- on from its length to its bytes
   pub text-go : (e : ℕ) → Octets s → at ≤ length s → numberEnd w m s at ≡ At e → endAt (textF w m q) s at ≡ skipEnd (length s) e (readLe w s at)
   text-go e b h k =
       let g = number-is w m q s at e h k in

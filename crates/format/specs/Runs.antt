@@ -35,23 +35,29 @@ module _ {A : Type 0} (f : Format A) where
     pub valid-is : (l : List A) → form .valid l → Many n l
     pub is-valid : (l : List A) → Many n l → form .valid l
 
+  -- the first and the others
   abbrev pub consOf : A × List A → List A
   consOf x = x .0 ∷ x .1
 
+  -- every list of n + 1 is made so
   pub onto-cons : (n : ℕ) (r : Rep n) (l : List A) → Many (suc n) l → From (bothF f (λ a. r .form) .valid) consOf l
   onto-cons n r [] h = absurd (omega arith)
   onto-cons n r (a ∷ l) h = record { value = (a, l); fine = (h .1 .0, r .is-valid l (omega arith, h .1 .1)); same = refl }
 
+  -- a list of none is empty
   pub nil-valid : (l : List A) → Many 0 l → l ≡ []
   nil-valid [] h = refl
   nil-valid (x ∷ l) h = absurd (omega arith)
 
+  -- the empty list has none
   pub nil-many : (l : List A) → l ≡ [] → Many 0 l
   nil-many l h = rw h (refl, tt)
 
+  -- and no bytes
   pub nil-enc : (l : List A) → l ≡ [] → [] ≡ encAll (f .enc) l
   nil-enc l h = rw h
 
+  -- the format of n
   unfoldable pub rep : (n : ℕ) → Rep n
   rep zero = record { form = noneF []; enc-is = nil-enc; valid-is = nil-many; is-valid = nil-valid }
   rep (suc n) =
@@ -66,6 +72,7 @@ module _ {A : Type 0} (f : Format A) where
         is-valid = λ l h. h;
       }
 
+  -- the format of n, with their bytes one after the other
   abbrev pub manyF : ℕ → Format (List A)
   manyF n =
       mapF (rep n .form) (λ l. l) (encAll (f .enc)) (Many n)
@@ -75,12 +82,14 @@ module _ {A : Type 0} (f : Format A) where
 
 -- ---- bytes
 
+-- below 256
 abbrev pub isByte : ℕ → Bool
 isByte x = ltb x 256
 
 abbrev pub Byte : ℕ → Type 0
 Byte x = x < 256
 
+-- any byte
 abbrev pub anyF : Format ℕ
 anyF =
     mapF (byteF isByte 0 refl) (λ x. x) (λ x. x ∷ []) Byte
@@ -88,6 +97,7 @@ anyF =
     (λ x h. ltb-true x 256 h)
     (λ x h. record { value = x; fine = lt-ltb x 256 h; same = refl })
 
+-- bytes one after the other are themselves
 pub encAll-bytes : (l : List ℕ) → encAll (λ x. x ∷ []) l ≡ l
 encAll-bytes [] = refl
 encAll-bytes (x ∷ l) = ap (λ (t : List ℕ). x ∷ t) (encAll-bytes l)

@@ -1,5 +1,5 @@
 -- Given bytes, and lists and texts with their length in front. Assumes nothing.
-use mathlib.Core.Path.{_≡_, refl, sym, ap, ap₂, _∙_}
+use mathlib.Core.Path.{_≡_, refl, sym, ap, ap₂}
 use mathlib.Core.List.{List, [], _∷_, _++_}
 use Prim.Native.Nat.{ℕ, _^_, _≤_, _<_}
 use native.Mathlib.Omega.{arith}
@@ -9,7 +9,7 @@ use borrow.Author.Tests.{eq-eqb, eqb-true}
 use Rattle.buffer.specs.Field.{le}
 use Rattle.format.specs.Format.{Format, noneF, byteF}
 use Rattle.format.specs.Both.{bothF}
-use Rattle.format.specs.Map.{From, mapF}
+use Rattle.format.specs.Map.{mapF}
 use Rattle.format.specs.Runs.{encAll, All, Byte, bytesF, manyF}
 use Rattle.format.specs.Numbers.{numberF}
 
@@ -27,9 +27,11 @@ pub record Word (bs : List ℕ) : Type 1 where
 abbrev pub Any : Unit {0} → Type 0
 Any u = Unit {0}
 
+-- they stand for nothing
 abbrev pub done : ℕ × Unit {0} → Unit {0}
 done x = tt
 
+-- the format of the bytes, one by one
 unfoldable pub word : (bs : List ℕ) → Word bs
 word [] = record { form = noneF tt; enc-is = λ u. refl; is-valid = λ u. refl }
 word (b ∷ bs) =
@@ -43,6 +45,7 @@ word (b ∷ bs) =
       is-valid = λ u. tt;
     }
 
+-- the format of the given bytes
 abbrev pub wordF : (bs : List ℕ) → Format (Unit {0})
 wordF bs =
     mapF (word bs .form) (λ u. u) (λ u. bs) Any

@@ -247,3 +247,8 @@ pub read-law : (d : ℕ) (s : Bytes) (v : Value) → Valid v → depth v ≤ d �
 unfolding OneLaw
 read-law zero s v ok l at r h = absurd (omega arith)
 read-law (suc d) s v ok l at r h = value-got d s (λ w wk m a q g. read-law d s w wk m a q g) at r v ok (omega arith) h
+
+-- and so are values one after the other
+pub items-law : (d : ℕ) (s : Bytes) (vs : Values) → Valids vs → deepest vs ≤ d → (at : ℕ) (r : Bytes) → at ≤ length s → drop at s ≡ encs vs r → Got s r vs (itemsEnd d s (count vs) at) (valuesOf d s (count vs) at)
+unfolding OneLaw
+items-law d s vs ok l at r i h = items-got d s (λ w wk m a q g. read-law d s w wk m a q g) vs ok l at r i h

@@ -1,36 +1,26 @@
-use mathlib.Core.Path.{_≡_, refl, sym, ap, _∙_}
-use Prim.Native.Nat.{ℕ, _+_, _-_, _≤_, _<_}
-use native.Mathlib.Omega.{arith}
-use lib.ListN.{length, getD}
+-- `call_record::argument_end` meets its contract. Assumes nothing.
+use mathlib.Core.Path.{sym, _∙_}
+use Prim.Native.Nat.{_-_}
 use Rattle.call_record.specs.Paths as laws
 use borrow.Author.Needs.{needs}
 use Rattle.call_record.proofs.argument_end.Statement.{statement}
 use Rattle.call_record.proofs.argument_end.Tie as tie
-use Rattle.call_record.proofs.argument_end.Reads as reads
-use Rattle.call_record.proofs.argument_end.Lts as lts
-use Rattle.call_record.proofs.text_end.Reads as text-end-reads
 
--- src/lib.rt:106:9
 returns : tie.Need-returns
 returns c = sym (laws.arg-out _ _ (c .if1 .taken))
 
--- src/lib.rt:108:16
 shared-slice-read-kind : tie.Need-shared-slice-read-kind
 shared-slice-read-kind c = search needs
 
--- src/lib.rt:110:9
 returns-2 : tie.Need-returns-2
 returns-2 c = sym (laws.arg-kind _ _ (c .before .before .if1 .left) (c .if2 .taken))
 
--- src/lib.rt:112:17
 add-next : tie.Need-add-next
 add-next c = search needs
 
--- src/lib.rt:112:5
 text-end-requires : tie.Need-text-end-requires
 text-end-requires c κs = search needs
 
--- src/lib.rt:101:1
 returns-3 : tie.Need-returns-3
 returns-3 c = c .text-end .ensures ∙ sym (laws.arg-go _ _ (c .before .before .before .if1 .left) (c .before .if2 .left))
 

@@ -1,58 +1,42 @@
-use mathlib.Core.Path.{_≡_, refl, sym, ap, _∙_}
-use Prim.Native.Nat.{ℕ, _+_, _-_, _≤_, _<_}
+-- `call_record::command_end` meets its contract. Assumes nothing.
+use mathlib.Core.Path.{sym, _∙_}
+use Prim.Native.Nat.{_-_}
 use native.Mathlib.Omega.{arith}
-use lib.ListN.{length, getD}
 use Rattle.call_record.specs.Paths as laws
 use borrow.Author.Needs.{needs}
 use Rattle.call_record.proofs.command_end.Statement.{statement}
 use Rattle.call_record.proofs.command_end.Tie as tie
-use Rattle.call_record.proofs.command_end.Reads as reads
-use Rattle.call_record.proofs.command_end.Lts as lts
-use Rattle.call_record.proofs.flags_ok.Reads as flags-ok-reads
-use Rattle.call_record.proofs.rest_end.Reads as rest-end-reads
-use Rattle.call_record.proofs.ttl_end.Reads as ttl-end-reads
 
--- src/lib.rt:182:9
 returns : tie.Need-returns
 returns c = sym (laws.command-out _ _ (c .if1 .taken))
 
--- src/lib.rt:184:13
 shared-slice-read-f : tie.Need-shared-slice-read-f
 shared-slice-read-f c = search needs
 
--- src/lib.rt:185:8
 flags-ok-requires : tie.Need-flags-ok-requires
 flags-ok-requires c κs = search needs
 
--- src/lib.rt:186:28
 add-next : tie.Need-add-next
 add-next c = search needs
 
--- src/lib.rt:186:13
 ttl-end-requires : tie.Need-ttl-end-requires
 ttl-end-requires c κs = search needs
 
--- src/lib.rt:188:24
 enum-known-t : tie.Need-enum-known-t
 enum-known-t c = search needs
 
--- src/lib.rt:189:21
 enum-known-t-2 : tie.Need-enum-known-t-2
 enum-known-t-2 c = search needs
 
--- src/lib.rt:189:27
 rest-end-requires : tie.Need-rest-end-requires
 rest-end-requires c κs = laws.ttl-inside _ _ _ _ (omega arith) (sym (c .before .before .before .ttl-end .ensures) ∙ c .before .t2 .given .1)
 
--- src/lib.rt:177:1
 returns-2 : tie.Need-returns-2
 returns-2 c = sym (laws.command-ttl _ _ _ (c .before .before .before .before .before .before .before .if1 .left) (sym (c .before .before .before .before .before .flags-ok .ensures) ∙ c .before .before .before .before .if2 .taken) (sym (c .before .before .before .ttl-end .ensures) ∙ c .before .t .given .1))
 
--- src/lib.rt:177:1
 returns-3 : tie.Need-returns-3
 returns-3 c = c .rest-end .ensures ∙ sym (laws.command-go _ _ _ (c .before .before .before .before .before .before .before .before .if1 .left) (sym (c .before .before .before .before .before .before .flags-ok .ensures) ∙ c .before .before .before .before .before .if2 .taken) (sym (c .before .before .before .before .ttl-end .ensures) ∙ c .before .before .t2 .given .1))
 
--- src/lib.rt:177:1
 returns-4 : tie.Need-returns-4
 returns-4 c = sym (laws.command-flags _ _ (c .before .before .before .if1 .left) (sym (c .before .flags-ok .ensures) ∙ c .if2 .left))
 

@@ -1,18 +1,14 @@
+-- `call_record::flags_ok` meets its contract. Assumes nothing.
 use borrow.Author.Tests.{le-leb, lt-leb, eq-eqb, ne-eqb}
 use Rattle.call_record.proofs.flags_ok.Statement.{statement}
 use Rattle.call_record.proofs.flags_ok.Tie as tie
-use Rattle.call_record.proofs.flags_ok.Reads as reads
-use Rattle.call_record.proofs.flags_ok.Lts as lts
 
--- src/lib.rt:142:9
 returns : tie.Need-returns
 returns c = rw (lt-leb _ 15 (c .if1 .taken))
 
--- src/lib.rt:145:9
 returns-2 : tie.Need-returns-2
 returns-2 c = rw (le-leb _ 15 (c .before .if1 .left), eq-eqb _ 1 (c .if2 .taken))
 
--- src/lib.rt:138:1
 returns-3 : tie.Need-returns-3
 returns-3 c = rw (le-leb _ 15 (c .before .if1 .left), ne-eqb _ 1 (c .if2 .left))
 

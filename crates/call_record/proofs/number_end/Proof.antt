@@ -1,13 +1,11 @@
+-- `call_record::number_end` meets its contract by its loop's invariant `Inv-loop`. Assumes nothing.
 use mathlib.Core.Path.{_≡_, refl, sym, ap, _∙_}
-use Prim.Native.Nat.{ℕ, _+_, _-_, _/_, _≤_, _<_}
+use Prim.Native.Nat.{ℕ, _+_, _-_, _/_, _≤_}
 use native.Mathlib.Omega.{arith}
-use lib.ListN.{length, getD}
+use lib.ListN.{length}
 use Rattle.format.specs.Places as laws
 use Rattle.call_record.proofs.number_end.Statement.{statement}
 use Rattle.call_record.proofs.number_end.Tie as tie
-use Rattle.call_record.proofs.number_end.Reads as reads
-use Rattle.call_record.proofs.number_end.Lts as lts
-use Rattle.call_record.proofs.wide.Reads as wide-reads
 
 abbrev Inv-loop : tie.InvT-loop
 Inv-loop s at w max i₀ left₀ room₀ i left room = (i ≤ length s) × (laws.numberEnd w max s at ≡ laws.numberEnd left room s i)
@@ -15,42 +13,33 @@ Inv-loop s at w max i₀ left₀ room₀ i left room = (i ≤ length s) × (laws
 abbrev μ-loop : tie.MeasureT-loop
 μ-loop s at w max i₀ left₀ room₀ i left room = left
 
--- src/lib.rt:34:5
 loop-holds : tie.Need-loop-holds Inv-loop μ-loop
 loop-holds c = (c .before .pre, refl)
 
--- src/lib.rt:36:13
 returns : tie.Need-returns Inv-loop μ-loop
 returns c = let l : ℕ = c .before .before .loop .left in sym (c .before .before .loop .inv .1 ∙ laws.number-out (l - 1) l _ _ _ (omega arith) (c .if1 .taken))
 
--- src/lib.rt:38:22
 shared-slice-read-wide : tie.Need-shared-slice-read-wide Inv-loop μ-loop
 shared-slice-read-wide c = omega arith
 
--- src/lib.rt:38:13
 wide-requires : tie.Need-wide-requires Inv-loop μ-loop
 wide-requires c κs = omega arith
 
--- src/lib.rt:40:13
 returns-2 : tie.Need-returns-2 Inv-loop μ-loop
 returns-2 c =
     let l : ℕ = c .before .before .before .before .before .loop .left in
     let b = c .before .wide .ensures .0 in
     sym (c .before .before .before .before .before .loop .inv .1 ∙ laws.number-bad (l - 1) l _ _ _ (omega arith) (c .before .before .before .if1 .left) (omega arith))
 
--- src/lib.rt:43:9
 add-i : tie.Need-add-i Inv-loop μ-loop
 add-i c = omega arith
 
--- src/lib.rt:44:9
 sub-left : tie.Need-sub-left Inv-loop μ-loop
 sub-left c = omega arith
 
--- src/lib.rt:34:5
 loop-less : tie.Need-loop-less Inv-loop μ-loop
 loop-less c = omega arith
 
--- src/lib.rt:34:5
 loop-again : tie.Need-loop-again Inv-loop μ-loop
 loop-again c =
     let l : ℕ = c .before .before .before .before .before .loop .left in
@@ -62,7 +51,6 @@ loop-again c =
           ∙ ap (λ (x : ℕ). laws.numberEnd (l - 1) ((c .before .before .before .before .before .loop .room - x) / 256) (c .before .before .before .before .before .before .before .args .s .now) (c .before .before .before .before .before .loop .i + 1)) (sym b),
     )
 
--- src/lib.rt:27:1
 returns-3 : tie.Need-returns-3 Inv-loop μ-loop
 returns-3 c = let z : c .before .loop .left ≡ 0 = omega arith in sym (c .before .loop .inv .1 ∙ rw z (laws.number-none _ _ _ (c .before .loop .inv .0)))
 

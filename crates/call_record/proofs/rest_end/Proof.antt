@@ -1,59 +1,43 @@
-use mathlib.Core.Path.{_≡_, refl, sym, ap, _∙_}
-use Prim.Native.Nat.{ℕ, _+_, _-_, _≤_, _<_}
+-- `call_record::rest_end` meets its contract. Assumes nothing.
+use mathlib.Core.Path.{sym, _∙_}
+use Prim.Native.Nat.{_-_}
 use native.Mathlib.Omega.{arith}
-use lib.ListN.{length, getD}
 use Rattle.call_record.specs.Paths as laws
 use Rattle.call_record.specs.Formats.{count-fits}
 use borrow.Author.Needs.{needs}
 use Rattle.call_record.proofs.rest_end.Statement.{statement}
 use Rattle.call_record.proofs.rest_end.Tie as tie
-use Rattle.call_record.proofs.rest_end.Reads as reads
-use Rattle.call_record.proofs.rest_end.Lts as lts
-use Rattle.buffer.proofs.read_u16.Reads as read-u16-reads
-use Rattle.call_record.proofs.arguments_end.Reads as arguments-end-reads
-use Rattle.call_record.proofs.number_end.Reads as number-end-reads
 
--- src/lib.rt:166:8
 sub-if1 : tie.Need-sub-if1
 sub-if1 c = search needs
 
--- src/lib.rt:167:9
 returns : tie.Need-returns
 returns c = sym (laws.rest-short _ (λ i. c .before .shared-slice-known .given i .fits) _ (omega arith) (omega arith))
 
--- src/lib.rt:169:27
 add-next : tie.Need-add-next
 add-next c = search needs
 
--- src/lib.rt:169:9
 number-end-requires : tie.Need-number-end-requires
 number-end-requires c κs = search needs
 
--- src/lib.rt:171:20
 enum-known-n : tie.Need-enum-known-n
 enum-known-n c = search needs
 
--- src/lib.rt:172:17
 enum-known-n-2 : tie.Need-enum-known-n-2
 enum-known-n-2 c = search needs
 
--- src/lib.rt:172:43
 read-u16-requires : tie.Need-read-u16-requires
 read-u16-requires c κs = laws.count-inside _ count-fits _ _ _ (omega arith) (sym (c .before .before .before .number-end .ensures) ∙ c .before .n2 .given .1) .0
 
--- src/lib.rt:172:43
 cast-arguments-end : tie.Need-cast-arguments-end
 cast-arguments-end c = search needs
 
--- src/lib.rt:172:23
 arguments-end-requires : tie.Need-arguments-end-requires
 arguments-end-requires c κs = laws.count-inside _ count-fits _ _ _ (omega arith) (sym (c .before .before .before .before .number-end .ensures) ∙ c .before .before .n2 .given .1) .1
 
--- src/lib.rt:162:1
 returns-2 : tie.Need-returns-2
 returns-2 c = sym (laws.rest-wrong _ (λ i. c .before .before .before .before .before .shared-slice-known .given i .fits) _ (omega arith) _ (omega arith) (sym (c .before .before .before .number-end .ensures) ∙ c .before .n .given .1))
 
--- src/lib.rt:162:1
 returns-3 : tie.Need-returns-3
 returns-3 c = c .arguments-end .ensures ∙ sym (laws.rest-go _ (λ i. c .before .before .before .before .before .before .before .shared-slice-known .given i .fits) _ (omega arith) _ _ (omega arith) (sym (c .before .before .before .before .before .number-end .ensures) ∙ c .before .before .before .n2 .given .1) (c .before .read-u16 .ensures))
 

@@ -1,25 +1,20 @@
+-- `call_record::skip_end` meets its contract. Assumes nothing.
 use mathlib.Core.Path.{sym}
 use native.Mathlib.Omega.{arith}
 use Rattle.format.specs.Skips as laws
 use borrow.Author.Needs.{needs}
 use Rattle.call_record.proofs.skip_end.Statement.{statement}
 use Rattle.call_record.proofs.skip_end.Tie as tie
-use Rattle.call_record.proofs.skip_end.Reads as reads
-use Rattle.call_record.proofs.skip_end.Lts as lts
 
--- src/lib.rt:74:13
 sub-if1 : tie.Need-sub-if1
 sub-if1 c = search needs
 
--- src/lib.rt:75:17
 add-t7 : tie.Need-add-t7
 add-t7 c = search needs
 
--- src/lib.rt:70:1
 returns : tie.Need-returns
 returns c = sym (laws.skip-in _ _ _ (omega arith))
 
--- src/lib.rt:70:1
 returns-2 : tie.Need-returns-2
 returns-2 c = sym (laws.skip-out _ _ _ (omega arith))
 

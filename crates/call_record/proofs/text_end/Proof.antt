@@ -1,51 +1,35 @@
-use mathlib.Core.Path.{_≡_, refl, sym, ap, _∙_}
-use Prim.Native.Nat.{ℕ, _+_, _-_, _≤_, _<_}
-use native.Mathlib.Omega.{arith}
-use lib.ListN.{length, getD}
+-- `call_record::text_end` meets its contract. Assumes nothing.
+use mathlib.Core.Path.{sym, _∙_}
+use Prim.Native.Nat.{_-_}
 use Rattle.call_record.specs.Paths as laws
 use borrow.Author.Needs.{needs}
 use Rattle.call_record.proofs.text_end.Statement.{statement}
 use Rattle.call_record.proofs.text_end.Tie as tie
-use Rattle.call_record.proofs.text_end.Reads as reads
-use Rattle.call_record.proofs.text_end.Lts as lts
-use Rattle.buffer.proofs.read_u32.Reads as read-u32-reads
-use Rattle.call_record.proofs.number_end.Reads as number-end-reads
-use Rattle.call_record.proofs.skip_end.Reads as skip-end-reads
-use Rattle.call_record.proofs.text_max.Reads as text-max-reads
 
--- src/lib.rt:93:34
 text-max-requires : tie.Need-text-max-requires
 text-max-requires c κs = search needs
 
--- src/lib.rt:93:9
 number-end-requires : tie.Need-number-end-requires
 number-end-requires c κs = search needs
 
--- src/lib.rt:95:20
 enum-known-n : tie.Need-enum-known-n
 enum-known-n c = search needs
 
--- src/lib.rt:96:17
 enum-known-n-2 : tie.Need-enum-known-n-2
 enum-known-n-2 c = search needs
 
--- src/lib.rt:96:44
 read-u32-requires : tie.Need-read-u32-requires
 read-u32-requires c κs = laws.text-inside (c .before .before .before .before .before .before .args .simple) _ (c .before .before .before .before .text-max .ensures) _ _ _ (c .before .before .before .before .before .before .pre) (sym (c .before .before .before .number-end .ensures) ∙ c .before .n2 .given .1) .0
 
--- src/lib.rt:96:44
 cast-skip-end : tie.Need-cast-skip-end
 cast-skip-end c = search needs
 
--- src/lib.rt:96:23
 skip-end-requires : tie.Need-skip-end-requires
 skip-end-requires c κs = laws.text-inside (c .before .before .before .before .before .before .before .args .simple) _ (c .before .before .before .before .before .text-max .ensures) _ _ _ (c .before .before .before .before .before .before .before .pre) (sym (c .before .before .before .before .number-end .ensures) ∙ c .before .before .n2 .given .1) .1
 
--- src/lib.rt:89:1
 returns : tie.Need-returns
 returns c = sym (laws.text-no (c .before .before .before .before .before .before .args .simple) _ (c .before .before .before .before .text-max .ensures) _ _ _ (sym (c .before .before .before .number-end .ensures) ∙ c .before .n .given .1))
 
--- src/lib.rt:89:1
 returns-2 : tie.Need-returns-2
 returns-2 c =
     c .skip-end .ensures

@@ -1,29 +1,20 @@
-use mathlib.Core.Path.{_≡_, refl, sym, ap, _∙_}
-use Prim.Native.Nat.{ℕ, _+_, _-_, _≤_, _<_}
-use native.Mathlib.Omega.{arith}
-use lib.ListN.{length, getD}
+-- `call_record::ttl_end` meets its contract. Assumes nothing.
+use mathlib.Core.Path.{sym, ap, _∙_}
+use Prim.Native.Nat.{_-_}
 use Rattle.call_record.specs.Paths as laws
 use borrow.Author.Needs.{needs}
 use Rattle.call_record.proofs.ttl_end.Statement.{statement}
 use Rattle.call_record.proofs.ttl_end.Tie as tie
-use Rattle.call_record.proofs.ttl_end.Reads as reads
-use Rattle.call_record.proofs.ttl_end.Lts as lts
-use Rattle.call_record.proofs.number_end.Reads as number-end-reads
-use Rattle.call_record.proofs.skip_end.Reads as skip-end-reads
 
--- src/lib.rt:156:9
 skip-end-requires : tie.Need-skip-end-requires
 skip-end-requires c κs = search needs
 
--- src/lib.rt:156:9
 returns : tie.Need-returns
 returns c = c .skip-end .ensures ∙ sym (laws.ttl-skip _ (λ i. c .before .before .shared-slice-known .given i .fits) _ (c .before .before .before .pre)) ∙ ap (λ b. laws.ttlEnd b (c .before .before .before .args .s .now) (c .before .before .before .args .at)) (sym (c .before .if1 .taken))
 
--- src/lib.rt:158:5
 number-end-requires : tie.Need-number-end-requires
 number-end-requires c κs = search needs
 
--- src/lib.rt:151:1
 returns-2 : tie.Need-returns-2
 returns-2 c = c .number-end .ensures ∙ sym (laws.ttl-zeros _ _) ∙ ap (λ b. laws.ttlEnd b (c .before .before .before .args .s .now) (c .before .before .before .args .at)) (sym (c .before .if1 .left))
 

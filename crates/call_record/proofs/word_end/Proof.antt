@@ -1,13 +1,12 @@
-use mathlib.Core.Path.{_≡_, refl, sym, ap, _∙_}
-use Prim.Native.Nat.{ℕ, _+_, _-_, _≤_, _<_}
+-- `call_record::word_end` meets its contract by its loop's invariant `Inv-loop`. Assumes nothing.
+use mathlib.Core.Path.{_≡_, refl, sym, _∙_}
+use Prim.Native.Nat.{_-_, _≤_}
 use native.Mathlib.Omega.{arith}
-use lib.ListN.{length, getD, drop}
+use lib.ListN.{length, drop}
 use Rattle.format.specs.Places.{wordEnd}
 use Rattle.call_record.specs.Paths as laws
 use Rattle.call_record.proofs.word_end.Statement.{statement}
 use Rattle.call_record.proofs.word_end.Tie as tie
-use Rattle.call_record.proofs.word_end.Reads as reads
-use Rattle.call_record.proofs.word_end.Lts as lts
 
 abbrev Inv-loop : tie.InvT-loop
 Inv-loop s at word i₀ k₀ i k = (i ≤ length s) × (k ≤ length word) × (wordEnd word s at ≡ wordEnd (drop k word) s i)
@@ -15,43 +14,33 @@ Inv-loop s at word i₀ k₀ i k = (i ≤ length s) × (k ≤ length word) × (w
 abbrev μ-loop : tie.MeasureT-loop
 μ-loop s at word i₀ k₀ i k = length word - k
 
--- src/lib.rt:56:5
 loop-holds : tie.Need-loop-holds Inv-loop μ-loop
 loop-holds c = (c .pre, omega arith, refl)
 
--- src/lib.rt:58:13
 returns : tie.Need-returns Inv-loop μ-loop
 returns c = sym (c .before .before .loop .inv .2 ∙ laws.turn-out _ _ _ _ (c .before .loop-test .taken) (c .if1 .taken))
 
--- src/lib.rt:60:12
 shared-slice-read-if2 : tie.Need-shared-slice-read-if2 Inv-loop μ-loop
 shared-slice-read-if2 c = omega arith
 
--- src/lib.rt:60:20
 shared-slice-read-if2-2 : tie.Need-shared-slice-read-if2-2 Inv-loop μ-loop
 shared-slice-read-if2-2 c = omega arith
 
--- src/lib.rt:61:13
 returns-2 : tie.Need-returns-2 Inv-loop μ-loop
 returns-2 c = sym (c .before .before .before .before .before .loop .inv .2 ∙ laws.turn-bad _ _ _ _ (c .before .before .before .before .loop-test .taken) (c .before .before .before .if1 .left) (c .if2 .taken))
 
--- src/lib.rt:63:9
 add-i : tie.Need-add-i Inv-loop μ-loop
 add-i c = omega arith
 
--- src/lib.rt:64:9
 add-k : tie.Need-add-k Inv-loop μ-loop
 add-k c = omega arith
 
--- src/lib.rt:56:5
 loop-less : tie.Need-loop-less Inv-loop μ-loop
 loop-less c = omega arith
 
--- src/lib.rt:56:5
 loop-again : tie.Need-loop-again Inv-loop μ-loop
 loop-again c = (omega arith, omega arith, c .before .before .before .before .before .loop .inv .2 ∙ laws.turn-go _ _ _ _ (c .before .before .before .before .loop-test .taken) (c .before .before .before .if1 .left) (c .if2 .left))
 
--- src/lib.rt:50:1
 returns-3 : tie.Need-returns-3 Inv-loop μ-loop
 returns-3 c = sym (c .before .loop .inv .2 ∙ laws.turn-done _ _ _ _ (c .loop-test .left) (c .before .loop .inv .0))
 

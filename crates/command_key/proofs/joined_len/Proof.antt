@@ -1,15 +1,13 @@
-use mathlib.Core.Path.{_≡_, refl, sym, ap, ap₂, _∙_}
-use Prim.Native.Nat.{ℕ, _+_, _-_, _≤_, _<_}
+-- `command_key::joined_len` meets its contract by its loop's invariant `Inv-loop`. Assumes nothing.
+use mathlib.Core.Path.{_≡_, ap}
+use Prim.Native.Nat.{ℕ, _+_, _-_, _≤_}
 use native.Mathlib.Omega.{arith}
-use lib.ListN.{length, getD, drop}
+use lib.ListN.{length}
 use Rattle.cursor.specs.At.{ArgsIn}
-use Rattle.cursor.specs.Steps.{in-more, in-first, one-more}
+use Rattle.cursor.specs.Steps.{in-more, in-first}
 use Rattle.command_key.specs.Joined as laws
 use Rattle.command_key.proofs.joined_len.Statement.{statement}
 use Rattle.command_key.proofs.joined_len.Tie as tie
-use Rattle.command_key.proofs.joined_len.Reads as reads
-use Rattle.command_key.proofs.joined_len.Lts as lts
-use Rattle.buffer.proofs.read_u32.Reads as read-u32-reads
 
 abbrev Inv-loop : tie.InvT-loop
 Inv-loop s at₀ left₀ total₀ at left total = ArgsIn s left at × (total + length (laws.joinedAt s left at) ≡ length (laws.joinedAt s left₀ at₀)) × (total ≤ at)
@@ -17,43 +15,33 @@ Inv-loop s at₀ left₀ total₀ at left total = ArgsIn s left at × (total + l
 abbrev μ-loop : tie.MeasureT-loop
 μ-loop s at₀ left₀ total₀ at left total = left
 
--- src/lib.rt:32:5
 loop-holds : tie.Need-loop-holds Inv-loop μ-loop
 loop-holds c = (c .before .pre, omega arith, omega arith)
 
--- src/lib.rt:33:37
 add-read-u32 : tie.Need-add-read-u32 Inv-loop μ-loop
 add-read-u32 c = let i = in-first _ _ _ (λ z. omega arith) (c .before .loop .inv .0) .room in omega arith
 
--- src/lib.rt:33:17
 read-u32-requires : tie.Need-read-u32-requires Inv-loop μ-loop
 read-u32-requires c κs = let i = in-first _ _ _ (λ z. omega arith) (c .before .loop .inv .0) .room in omega arith
 
--- src/lib.rt:33:17
 cast-n : tie.Need-cast-n Inv-loop μ-loop
 cast-n c = omega arith
 
--- src/lib.rt:34:9
 add-total : tie.Need-add-total Inv-loop μ-loop
 add-total c = let i = in-first _ _ _ (λ z. omega arith) (c .before .before .loop .inv .0) .inside in let e = c .read-u32 .ensures in let b = c .before .before .loop .inv .2 in omega arith
 
--- src/lib.rt:35:14
 add-at : tie.Need-add-at Inv-loop μ-loop
 add-at c = let i = in-first _ _ _ (λ z. omega arith) (c .before .before .loop .inv .0) .room in omega arith
 
--- src/lib.rt:35:14
 add-at-2 : tie.Need-add-at-2 Inv-loop μ-loop
 add-at-2 c = let i = in-first _ _ _ (λ z. omega arith) (c .before .before .loop .inv .0) .inside in let e = c .read-u32 .ensures in omega arith
 
--- src/lib.rt:36:9
 sub-left : tie.Need-sub-left Inv-loop μ-loop
 sub-left c = omega arith
 
--- src/lib.rt:32:5
 loop-less : tie.Need-loop-less Inv-loop μ-loop
 loop-less c = omega arith
 
--- src/lib.rt:32:5
 loop-again : tie.Need-loop-again Inv-loop μ-loop
 loop-again c =
     let l : ℕ = c .before .before .loop .left in
@@ -65,7 +53,6 @@ loop-again c =
     let j = laws.joined-length _ l (l - 1) _ q (w .0) in
     rw e (in-more _ l (l - 1) _ q (w .0) .1, omega arith, omega arith)
 
--- src/lib.rt:25:1
 returns : tie.Need-returns Inv-loop μ-loop
 returns c =
     let a = c .before .loop .inv .1 in

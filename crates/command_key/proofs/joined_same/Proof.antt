@@ -1,17 +1,14 @@
-use mathlib.Core.Path.{_≡_, refl, sym, ap, ap₂, _∙_}
-use Prim.Native.Nat.{ℕ, _+_, _-_, _≤_, _<_}
+-- `command_key::joined_same` meets its contract by its loop's invariant `Inv-loop`. Assumes nothing.
+use mathlib.Core.Path.{_≡_, refl, sym, ap, _∙_}
+use Prim.Native.Nat.{ℕ, _+_, _-_, _≤_}
 use native.Mathlib.Omega.{arith}
-use lib.ListN.{length, getD, drop}
+use lib.ListN.{length, drop}
 use Rattle.cursor.specs.At.{ArgsIn}
-use Rattle.cursor.specs.Steps.{in-more, in-first, one-more}
+use Rattle.cursor.specs.Steps.{in-more, in-first}
 use Rattle.command_key.specs.Joined as laws
 use Rattle.buffer.specs.Same.{same}
 use Rattle.command_key.proofs.joined_same.Statement.{statement}
 use Rattle.command_key.proofs.joined_same.Tie as tie
-use Rattle.command_key.proofs.joined_same.Reads as reads
-use Rattle.command_key.proofs.joined_same.Lts as lts
-use Rattle.buffer.proofs.read_u32.Reads as read-u32-reads
-use Rattle.buffer.proofs.same_at.Reads as same-at-reads
 
 abbrev Inv-loop : tie.InvT-loop
 Inv-loop s t at₀ left₀ done₀ at left done = ArgsIn s left at × (done ≤ length t) × (same t (laws.joinedAt s left₀ at₀) ≡ same (drop done t) (laws.joinedAt s left at))
@@ -19,35 +16,27 @@ Inv-loop s t at₀ left₀ done₀ at left done = ArgsIn s left at × (done ≤ 
 abbrev μ-loop : tie.MeasureT-loop
 μ-loop s t at₀ left₀ done₀ at left done = left
 
--- src/lib.rt:68:5
 loop-holds : tie.Need-loop-holds Inv-loop μ-loop
 loop-holds c = (c .before .before .pre, omega arith, refl)
 
--- src/lib.rt:69:37
 add-read-u32 : tie.Need-add-read-u32 Inv-loop μ-loop
 add-read-u32 c = let i = in-first _ _ _ (λ z. omega arith) (c .before .loop .inv .0) .room in omega arith
 
--- src/lib.rt:69:17
 read-u32-requires : tie.Need-read-u32-requires Inv-loop μ-loop
 read-u32-requires c κs = let i = in-first _ _ _ (λ z. omega arith) (c .before .loop .inv .0) .room in omega arith
 
--- src/lib.rt:69:17
 cast-n : tie.Need-cast-n Inv-loop μ-loop
 cast-n c = omega arith
 
--- src/lib.rt:70:21
 add-start : tie.Need-add-start Inv-loop μ-loop
 add-start c = let i = in-first _ _ _ (λ z. omega arith) (c .before .before .loop .inv .0) .room in omega arith
 
--- src/lib.rt:71:19
 add-end : tie.Need-add-end Inv-loop μ-loop
 add-end c = let i = in-first _ _ _ (λ z. omega arith) (c .before .before .loop .inv .0) .inside in let e = c .read-u32 .ensures in omega arith
 
--- src/lib.rt:72:16
 sub-if1 : tie.Need-sub-if1 Inv-loop μ-loop
 sub-if1 c = omega arith
 
--- src/lib.rt:73:13
 returns : tie.Need-returns Inv-loop μ-loop
 returns c =
     let l : ℕ = c .before .before .before .loop .left in
@@ -55,19 +44,15 @@ returns c =
     let d = w .1 in
     sym (w .2 ∙ laws.same-long _ _ l (l - 1) _ _ _ (omega arith) (w .0) (c .before .read-u32 .ensures) d (omega arith))
 
--- src/lib.rt:75:37
 sub-same-at : tie.Need-sub-same-at Inv-loop μ-loop
 sub-same-at c = omega arith
 
--- src/lib.rt:75:37
 part-same-at-start : tie.Need-part-same-at-start Inv-loop μ-loop
 part-same-at-start c = omega arith
 
--- src/lib.rt:75:37
 part-same-at-end : tie.Need-part-same-at-end Inv-loop μ-loop
 part-same-at-end c = let i = in-first _ _ _ (λ z. omega arith) (c .before .before .before .loop .inv .0) .inside in let e = c .before .read-u32 .ensures in omega arith
 
--- src/lib.rt:75:12
 same-at-requires : tie.Need-same-at-requires Inv-loop μ-loop
 same-at-requires c κs =
     let w = c .before .before .before .before .loop .inv in
@@ -75,11 +60,9 @@ same-at-requires c κs =
     let n = laws.cut-length _ _ _ (c .before .before .read-u32 .ensures) (in-first _ _ _ (λ z. omega arith) (w .0)) in
     omega arith
 
--- src/lib.rt:76:13
 add-done : tie.Need-add-done Inv-loop μ-loop
 add-done c = let w = c .before .before .before .before .before .before .loop .inv in let d = w .1 in omega arith
 
--- src/lib.rt:78:13
 returns-2 : tie.Need-returns-2 Inv-loop μ-loop
 returns-2 c =
     let l : ℕ = c .before .before .before .before .before .before .loop .left in
@@ -87,15 +70,12 @@ returns-2 c =
     let d = w .1 in
     sym (w .2 ∙ laws.same-no _ _ l (l - 1) _ _ _ (omega arith) (w .0) (c .before .before .before .before .read-u32 .ensures) d (omega arith) (sym (c .before .same-at .ensures) ∙ c .if2 .left))
 
--- src/lib.rt:81:9
 sub-left : tie.Need-sub-left Inv-loop μ-loop
 sub-left c = omega arith
 
--- src/lib.rt:68:5
 loop-less : tie.Need-loop-less Inv-loop μ-loop
 loop-less c = omega arith
 
--- src/lib.rt:68:5
 loop-again : tie.Need-loop-again Inv-loop μ-loop
 loop-again c =
     let l : ℕ = c .before .before .before .before .before .before .loop .left in
@@ -108,7 +88,6 @@ loop-again c =
       w .2 ∙ laws.same-yes _ _ l (l - 1) _ _ _ q (w .0) e d (omega arith) (sym (c .before .same-at .ensures) ∙ c .if2 .taken),
     )
 
--- src/lib.rt:61:1
 returns-3 : tie.Need-returns-3 Inv-loop μ-loop
 returns-3 c =
     let w = c .before .loop .inv in

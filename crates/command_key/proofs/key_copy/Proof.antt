@@ -1,38 +1,26 @@
-use mathlib.Core.Path.{_≡_, refl, sym, ap, ap₂, _∙_}
-use Prim.Native.Nat.{ℕ, _+_, _-_, _≤_, _<_}
+-- `command_key::key_copy` meets its contract. Assumes nothing.
+use mathlib.Core.Path.{ap, _∙_}
+use Prim.Native.Nat.{_-_}
 use native.Mathlib.Omega.{arith}
 use lib.ListN.{length}
-use Rattle.buffer.specs.Same.{Bytes}
-use Rattle.command_key.specs.Key.{nameBytes}
 use Rattle.command_key.specs.Keys as keys
-use Rattle.command_key.specs.Named as laws
 use Rattle.buffer.specs.Part.{put}
 use borrow.Author.Needs.{needs}
 use Rattle.command_key.proofs.key_copy.Statement.{statement}
 use Rattle.command_key.proofs.key_copy.Tie as tie
-use Rattle.command_key.proofs.key_copy.Reads as reads
-use Rattle.command_key.proofs.key_copy.Lts as lts
-use Rattle.buffer.proofs.copy_to.Reads as copy-to-reads
-use Rattle.command_key.proofs.joined_copy.Reads as joined-copy-reads
-use Rattle.command_key.proofs.named_copy.Reads as named-copy-reads
 
--- src/lib.rt:185:26
 enum-known-key : tie.Need-enum-known-key
 enum-known-key c = search needs
 
--- src/lib.rt:188:38
 sub-copy-to : tie.Need-sub-copy-to
 sub-copy-to c = keys.part-in _ _ (c .before .before .before .before .before .before .pre .0) _ (c .before .before .key .given .1) .0
 
--- src/lib.rt:188:38
 part-copy-to-start : tie.Need-part-copy-to-start
 part-copy-to-start c = keys.part-in _ _ (c .before .before .before .before .before .before .pre .0) _ (c .before .before .key .given .1) .0
 
--- src/lib.rt:188:38
 part-copy-to-end : tie.Need-part-copy-to-end
 part-copy-to-end c = keys.part-in _ _ (c .before .before .before .before .before .before .pre .0) _ (c .before .before .key .given .1) .1
 
--- src/lib.rt:188:13
 copy-to-requires : tie.Need-copy-to-requires
 copy-to-requires c κs =
     let q = c .before .before .before .key .given .1 in
@@ -42,11 +30,9 @@ copy-to-requires c κs =
     let h = c .before .before .before .before .before .before .before .pre .1 in
     omega arith
 
--- src/lib.rt:190:28
 enum-known-key-2 : tie.Need-enum-known-key-2
 enum-known-key-2 c = search needs
 
--- src/lib.rt:191:13
 joined-copy-requires : tie.Need-joined-copy-requires
 joined-copy-requires c κs =
     let q = c .before .before .key2 .given .1 in
@@ -54,11 +40,9 @@ joined-copy-requires c κs =
     let h = c .before .before .before .before .before .before .pre .1 in
     (keys.joined-in _ _ (c .before .before .before .before .before .before .pre .0) _ q, omega arith)
 
--- src/lib.rt:193:27
 enum-known-key-3 : tie.Need-enum-known-key-3
 enum-known-key-3 c = search needs
 
--- src/lib.rt:194:13
 named-copy-requires : tie.Need-named-copy-requires
 named-copy-requires c κs =
     let q = c .before .before .key3 .given .1 in
@@ -67,29 +51,23 @@ named-copy-requires c κs =
     let h = c .before .before .before .before .before .before .pre .1 in
     (v .0, v .1, omega arith)
 
--- src/lib.rt:180:1
 same-length : tie.Need-same-length
 same-length c = search needs
 
--- src/lib.rt:180:1
 returns : tie.Need-returns
 returns c =
     let q = c .before .before .before .before .before .before .key .given .1 in
     c .before .before .copy-to .ensures ∙ ap (put _ _) (keys.range-cut _ _ ∙ keys.part-bytes _ _ (c .before .before .before .before .before .before .before .before .before .before .pre .0) _ q)
 
--- src/lib.rt:180:1
 same-length-2 : tie.Need-same-length-2
 same-length-2 c = search needs
 
--- src/lib.rt:180:1
 returns-2 : tie.Need-returns-2
 returns-2 c = c .before .before .joined-copy .ensures ∙ ap (put _ _) (keys.joined-bytes _ _ (c .before .before .before .before .before .before .before .before .before .pre .0) _ (c .before .before .before .before .before .key2 .given .1))
 
--- src/lib.rt:180:1
 same-length-3 : tie.Need-same-length-3
 same-length-3 c = search needs
 
--- src/lib.rt:180:1
 returns-3 : tie.Need-returns-3
 returns-3 c = c .before .before .named-copy .ensures ∙ ap (put _ _) (keys.named-bytes _ _ (c .before .before .before .before .before .before .before .before .before .pre .0) _ _ _ (c .before .before .before .before .before .key3 .given .1))
 

@@ -1,48 +1,35 @@
-use mathlib.Core.Path.{_≡_, refl, sym, ap, ap₂, _∙_}
-use Prim.Native.Nat.{ℕ, _+_, _-_, _≤_, _<_}
+-- `command_key::key_len` meets its contract. Assumes nothing.
+use mathlib.Core.Path.{sym, ap, _∙_}
+use Prim.Native.Nat.{_-_}
 use native.Mathlib.Omega.{arith}
 use lib.ListN.{length}
-use Rattle.buffer.specs.Same.{Bytes}
-use Rattle.command_key.specs.Key.{nameBytes}
 use Rattle.command_key.specs.Keys as keys
 use Rattle.command_key.specs.Named as laws
 use borrow.Author.Needs.{needs}
 use Rattle.command_key.proofs.key_len.Statement.{statement}
 use Rattle.command_key.proofs.key_len.Tie as tie
-use Rattle.command_key.proofs.key_len.Reads as reads
-use Rattle.command_key.proofs.key_len.Lts as lts
-use Rattle.command_key.proofs.joined_len.Reads as joined-len-reads
-use Rattle.command_key.proofs.name_len.Reads as name-len-reads
 
--- src/lib.rt:99:26
 enum-known-key : tie.Need-enum-known-key
 enum-known-key c = search needs
 
--- src/lib.rt:99:32
 sub-result : tie.Need-sub-result
 sub-result c = keys.part-in _ _ (c .before .before .before .before .before .pre) _ (c .before .before .key .given .1) .0
 
--- src/lib.rt:100:28
 enum-known-key-2 : tie.Need-enum-known-key-2
 enum-known-key-2 c = search needs
 
--- src/lib.rt:100:34
 joined-len-requires : tie.Need-joined-len-requires
 joined-len-requires c κs = keys.joined-in _ _ (c .before .before .before .before .pre) _ (c .before .key2 .given .1)
 
--- src/lib.rt:101:27
 enum-known-key-3 : tie.Need-enum-known-key-3
 enum-known-key-3 c = search needs
 
--- src/lib.rt:101:42
 name-len-requires : tie.Need-name-len-requires
 name-len-requires c κs = search needs
 
--- src/lib.rt:101:60
 sub-result-2 : tie.Need-sub-result-2
 sub-result-2 c = keys.named-in _ _ (c .before .before .before .before .before .before .pre) _ _ _ (c .before .before .before .key3 .given .1) .0 .0
 
--- src/lib.rt:101:42
 add-result : tie.Need-add-result
 add-result c =
     let v = keys.named-in _ _ (c .before .before .before .before .before .before .pre) _ _ _ (c .before .before .before .key3 .given .1) in
@@ -52,11 +39,9 @@ add-result c =
     let e = c .before .name-len .ensures in
     omega arith
 
--- src/lib.rt:101:80
 sub-result-3 : tie.Need-sub-result-3
 sub-result-3 c = keys.named-in _ _ (c .before .before .before .before .before .before .before .pre) _ _ _ (c .before .before .before .before .key3 .given .1) .1 .0
 
--- src/lib.rt:101:42
 add-result-2 : tie.Need-add-result-2
 add-result-2 c =
     let v = keys.named-in _ _ (c .before .before .before .before .before .before .before .pre) _ _ _ (c .before .before .before .before .key3 .given .1) in
@@ -67,15 +52,12 @@ add-result-2 c =
     let e = c .before .before .name-len .ensures in
     omega arith
 
--- src/lib.rt:94:1
 returns : tie.Need-returns
 returns c = let q = c .before .before .key .given .1 in sym (keys.range-length _ _ (keys.part-in _ _ (c .before .before .before .before .before .pre) _ q)) ∙ ap length (keys.part-bytes _ _ (c .before .before .before .before .before .pre) _ q)
 
--- src/lib.rt:94:1
 returns-2 : tie.Need-returns-2
 returns-2 c = c .joined-len .ensures ∙ ap length (keys.joined-bytes _ _ (c .before .before .before .before .before .pre) _ (c .before .before .key2 .given .1))
 
--- src/lib.rt:94:1
 returns-3 : tie.Need-returns-3
 returns-3 c =
     let q = c .before .before .before .before .key3 .given .1 in

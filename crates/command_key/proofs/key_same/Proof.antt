@@ -1,59 +1,39 @@
-use mathlib.Core.Path.{_≡_, refl, sym, ap, ap₂, _∙_}
-use Prim.Native.Nat.{ℕ, _+_, _-_, _≤_, _<_}
-use native.Mathlib.Omega.{arith}
-use lib.ListN.{length}
-use Rattle.buffer.specs.Same.{Bytes}
-use Rattle.command_key.specs.Key.{nameBytes}
+-- `command_key::key_same` meets its contract. Assumes nothing.
+use mathlib.Core.Path.{ap, _∙_}
+use Prim.Native.Nat.{_-_}
 use Rattle.command_key.specs.Keys as keys
-use Rattle.command_key.specs.Named as laws
 use Rattle.buffer.specs.Same.{same}
 use borrow.Author.Needs.{needs}
 use Rattle.command_key.proofs.key_same.Statement.{statement}
 use Rattle.command_key.proofs.key_same.Tie as tie
-use Rattle.command_key.proofs.key_same.Reads as reads
-use Rattle.command_key.proofs.key_same.Lts as lts
-use Rattle.buffer.proofs.same.Reads as same-reads
-use Rattle.command_key.proofs.joined_same.Reads as joined-same-reads
-use Rattle.command_key.proofs.named_same.Reads as named-same-reads
-use Rattle.cursor.proofs.bytes_in.Reads as bytes-in-reads
 
--- src/lib.rt:145:26
 enum-known-key : tie.Need-enum-known-key
 enum-known-key c = search needs
 
--- src/lib.rt:145:48
 bytes-in-requires : tie.Need-bytes-in-requires
 bytes-in-requires c κs = keys.part-in _ _ (c .before .before .before .before .before .pre) _ (c .before .key .given .1)
 
--- src/lib.rt:145:32
 same-requires : tie.Need-same-requires
 same-requires c κs = search needs
 
--- src/lib.rt:146:28
 enum-known-key-2 : tie.Need-enum-known-key-2
 enum-known-key-2 c = search needs
 
--- src/lib.rt:146:34
 joined-same-requires : tie.Need-joined-same-requires
 joined-same-requires c κs = keys.joined-in _ _ (c .before .before .before .before .before .pre) _ (c .before .key2 .given .1)
 
--- src/lib.rt:147:27
 enum-known-key-3 : tie.Need-enum-known-key-3
 enum-known-key-3 c = search needs
 
--- src/lib.rt:147:42
 named-same-requires : tie.Need-named-same-requires
 named-same-requires c κs = keys.named-in _ _ (c .before .before .before .before .before .pre) _ _ _ (c .before .key3 .given .1)
 
--- src/lib.rt:140:1
 returns : tie.Need-returns
 returns c = c .same .ensures ∙ ap (same _) (c .before .bytes-in .ensures ∙ keys.part-bytes _ _ (c .before .before .before .before .before .before .before .pre) _ (c .before .before .before .key .given .1))
 
--- src/lib.rt:140:1
 returns-2 : tie.Need-returns-2
 returns-2 c = c .joined-same .ensures ∙ ap (same _) (keys.joined-bytes _ _ (c .before .before .before .before .before .before .pre) _ (c .before .before .key2 .given .1))
 
--- src/lib.rt:140:1
 returns-3 : tie.Need-returns-3
 returns-3 c = c .named-same .ensures ∙ ap (same _) (keys.named-bytes _ _ (c .before .before .before .before .before .before .pre) _ _ _ (c .before .before .key3 .given .1))
 

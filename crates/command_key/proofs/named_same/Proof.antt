@@ -1,29 +1,18 @@
-use mathlib.Core.Path.{_≡_, refl, sym, ap, ap₂, _∙_}
-use Prim.Native.Nat.{ℕ, _+_, _-_, _≤_, _<_}
+-- `command_key::named_same` meets its contract. Assumes nothing.
+use mathlib.Core.Path.{sym, _∙_}
+use Prim.Native.Nat.{_-_}
 use native.Mathlib.Omega.{arith}
-use lib.ListN.{length}
-use Rattle.buffer.specs.Same.{Bytes}
-use Rattle.command_key.specs.Key.{nameBytes}
-use Rattle.command_key.specs.Keys as keys
 use Rattle.command_key.specs.Named as laws
 use borrow.Author.Needs.{needs}
 use Rattle.command_key.proofs.named_same.Statement.{statement}
 use Rattle.command_key.proofs.named_same.Tie as tie
-use Rattle.command_key.proofs.named_same.Reads as reads
-use Rattle.command_key.proofs.named_same.Lts as lts
-use Rattle.buffer.proofs.same_at.Reads as same-at-reads
-use Rattle.command_key.proofs.name_len.Reads as name-len-reads
-use Rattle.command_key.proofs.name_same.Reads as name-same-reads
 
--- src/lib.rt:126:9
 name-len-requires : tie.Need-name-len-requires
 name-len-requires c κs = search needs
 
--- src/lib.rt:127:18
 sub-m : tie.Need-sub-m
 sub-m c = search needs
 
--- src/lib.rt:127:13
 add-m : tie.Need-add-m
 add-m c =
     let w = laws.space (c .before .before .before .args .s .now) (c .before .before .before .args .json) (c .before .before .before .args .g) (c .before .before .before .args .p) (c .before .before .before .pre .0) (c .before .before .before .pre .1) .name in
@@ -32,11 +21,9 @@ add-m c =
     let e = c .name-len .ensures in
     omega arith
 
--- src/lib.rt:128:24
 sub-if1 : tie.Need-sub-if1
 sub-if1 c = search needs
 
--- src/lib.rt:128:19
 add-if1 : tie.Need-add-if1
 add-if1 c =
     let w = laws.space (c .before .before .before .args .s .now) (c .before .before .before .args .json) (c .before .before .before .args .g) (c .before .before .before .args .p) (c .before .before .before .pre .0) (c .before .before .before .pre .1) .name in
@@ -46,57 +33,44 @@ add-if1 c =
     let e = c .name-len .ensures in
     omega arith
 
--- src/lib.rt:129:9
 returns : tie.Need-returns
 returns c = sym (laws.same-other _ _ (c .before .before .before .before .args .json) _ _ (c .before .before .before .before .pre .0) (c .before .before .before .before .pre .1) _ (c .before .name-len .ensures) (c .if1 .taken))
 
--- src/lib.rt:131:8
 name-same-requires : tie.Need-name-same-requires
 name-same-requires c κs = search needs
 
--- src/lib.rt:132:34
 sub-same-at : tie.Need-sub-same-at
 sub-same-at c = search needs
 
--- src/lib.rt:132:34
 part-same-at-start : tie.Need-part-same-at-start
 part-same-at-start c = search needs
 
--- src/lib.rt:132:34
 part-same-at-end : tie.Need-part-same-at-end
 part-same-at-end c = search needs
 
--- src/lib.rt:132:12
 same-at-requires : tie.Need-same-at-requires
 same-at-requires c κs = let k = laws.space (c .before .before .before .before .before .before .before .args .s .now) (c .before .before .before .before .before .before .before .args .json) (c .before .before .before .before .before .before .before .args .g) (c .before .before .before .before .before .before .before .args .p) (c .before .before .before .before .before .before .before .pre .0) (c .before .before .before .before .before .before .before .pre .1) .key in let e = c .before .before .before .if1 .left in omega arith
 
--- src/lib.rt:133:42
 sub-same-at-2 : tie.Need-sub-same-at-2
 sub-same-at-2 c = search needs
 
--- src/lib.rt:133:42
 part-same-at-start-2 : tie.Need-part-same-at-start-2
 part-same-at-start-2 c = search needs
 
--- src/lib.rt:133:42
 part-same-at-end-2 : tie.Need-part-same-at-end-2
 part-same-at-end-2 c = search needs
 
--- src/lib.rt:133:13
 same-at-requires-2 : tie.Need-same-at-requires-2
 same-at-requires-2 c κs = let k = laws.space (c .before .before .before .before .before .before .before .before .before .before .args .s .now) (c .before .before .before .before .before .before .before .before .before .before .args .json) (c .before .before .before .before .before .before .before .before .before .before .args .g) (c .before .before .before .before .before .before .before .before .before .before .args .p) (c .before .before .before .before .before .before .before .before .before .before .pre .0) (c .before .before .before .before .before .before .before .before .before .before .pre .1) .path in let e = c .before .before .before .before .before .before .if1 .left in omega arith
 
--- src/lib.rt:133:13
 returns-2 : tie.Need-returns-2
 returns-2 c =
     c .same-at2 .ensures
     ∙ sym (laws.same-path _ _ (c .before .before .before .before .before .before .before .before .before .before .before .args .json) _ _ (c .before .before .before .before .before .before .before .before .before .before .before .pre .0) (c .before .before .before .before .before .before .before .before .before .before .before .pre .1) _ (c .before .before .before .before .before .before .before .before .name-len .ensures) (c .before .before .before .before .before .before .before .if1 .left) (sym (c .before .before .before .before .before .before .name-same .ensures) ∙ c .before .before .before .before .before .if2 .taken) (sym (c .before .before .before .same-at .ensures) ∙ c .before .before .if3 .taken))
 
--- src/lib.rt:118:1
 returns-3 : tie.Need-returns-3
 returns-3 c = sym (laws.same-key _ _ (c .before .before .before .before .before .before .before .before .before .args .json) _ _ (c .before .before .before .before .before .before .before .before .before .pre .0) (c .before .before .before .before .before .before .before .before .before .pre .1) _ (c .before .before .before .before .before .before .name-len .ensures) (c .before .before .before .before .before .if1 .left) (sym (c .before .before .before .before .name-same .ensures) ∙ c .before .before .before .if2 .taken) (sym (c .before .same-at .ensures) ∙ c .if3 .left))
 
--- src/lib.rt:118:1
 returns-4 : tie.Need-returns-4
 returns-4 c = sym (laws.same-name _ _ (c .before .before .before .before .before .before .args .json) _ _ (c .before .before .before .before .before .before .pre .0) (c .before .before .before .before .before .before .pre .1) _ (c .before .before .before .name-len .ensures) (c .before .before .if1 .left) (sym (c .before .name-same .ensures) ∙ c .if2 .left))
 

@@ -1,16 +1,12 @@
-use mathlib.Core.Path.{_≡_, refl, sym, ap, ap₂, _∙_}
-use Prim.Native.Nat.{ℕ, _+_, _-_, _≤_, _<_}
+-- `cursor::arg_idx` meets its contract by its loop's invariant `Inv-loop`. Assumes nothing.
+use mathlib.Core.Path.{_≡_, refl, sym, _∙_}
+use Prim.Native.Nat.{ℕ, _+_, _-_, _≤_}
 use native.Mathlib.Omega.{arith}
-use lib.ListN.{length, getD, drop}
-use Rattle.cursor.specs.At.{argsAt, argsEnd, ArgsIn, argsOf, nextAt}
+use Rattle.cursor.specs.At.{argsAt, ArgsIn}
 use Rattle.cursor.specs.Steps as laws
 use Rattle.cursor.specs.Index as index
 use Rattle.cursor.proofs.arg_idx.Statement.{statement}
 use Rattle.cursor.proofs.arg_idx.Tie as tie
-use Rattle.cursor.proofs.arg_idx.Reads as reads
-use Rattle.cursor.proofs.arg_idx.Lts as lts
-use Rattle.buffer.proofs.read_u32.Reads as read-u32-reads
-use Rattle.cursor.proofs.found_at.Reads as found-at-reads
 
 abbrev Inv-loop : tie.InvT-loop
 Inv-loop s idx at₀ left₀ i₀ before₀ at left i before = ArgsIn s left at × (index.argIdx (argsAt s left₀ at₀) idx ≡ index.argIdxFrom before (argsAt s left at) i) × (before ≤ at)
@@ -18,51 +14,39 @@ Inv-loop s idx at₀ left₀ i₀ before₀ at left i before = ArgsIn s left at 
 abbrev μ-loop : tie.MeasureT-loop
 μ-loop s idx at₀ left₀ i₀ before₀ at left i before = i
 
--- src/lib.rt:131:5
 loop-holds : tie.Need-loop-holds Inv-loop μ-loop
 loop-holds c = (c .before .pre, refl, omega arith)
 
--- src/lib.rt:133:13
 returns : tie.Need-returns Inv-loop μ-loop
 returns c = (sym (c .before .before .loop .inv .1 ∙ index.idx-none _ _ _ _ _ (c .if1 .taken)), tt)
 
--- src/lib.rt:135:40
 add-read-u32 : tie.Need-add-read-u32 Inv-loop μ-loop
 add-read-u32 c = let i = laws.in-first _ _ _ (c .if1 .left) (c .before .before .loop .inv .0) .room in omega arith
 
--- src/lib.rt:135:20
 read-u32-requires : tie.Need-read-u32-requires Inv-loop μ-loop
 read-u32-requires c κs = let i = laws.in-first _ _ _ (c .if1 .left) (c .before .before .loop .inv .0) .room in omega arith
 
--- src/lib.rt:135:20
 cast-size : tie.Need-cast-size Inv-loop μ-loop
 cast-size c = omega arith
 
--- src/lib.rt:136:9
 add-before : tie.Need-add-before Inv-loop μ-loop
 add-before c = let i = laws.in-first _ _ _ (c .before .if1 .left) (c .before .before .before .loop .inv .0) .inside in let e = c .read-u32 .ensures in let b = c .before .before .before .loop .inv .2 in omega arith
 
--- src/lib.rt:137:14
 add-at : tie.Need-add-at Inv-loop μ-loop
 add-at c = let i = laws.in-first _ _ _ (c .before .if1 .left) (c .before .before .before .loop .inv .0) .room in omega arith
 
--- src/lib.rt:137:14
 add-at-2 : tie.Need-add-at-2 Inv-loop μ-loop
 add-at-2 c = let i = laws.in-first _ _ _ (c .before .if1 .left) (c .before .before .before .loop .inv .0) .inside in let e = c .read-u32 .ensures in omega arith
 
--- src/lib.rt:138:9
 sub-left : tie.Need-sub-left Inv-loop μ-loop
 sub-left c = omega arith
 
--- src/lib.rt:139:9
 sub-i : tie.Need-sub-i Inv-loop μ-loop
 sub-i c = omega arith
 
--- src/lib.rt:131:5
 loop-less : tie.Need-loop-less Inv-loop μ-loop
 loop-less c = omega arith
 
--- src/lib.rt:131:5
 loop-again : tie.Need-loop-again Inv-loop μ-loop
 loop-again c =
     let l : ℕ = c .before .before .before .loop .left in
@@ -74,11 +58,9 @@ loop-again c =
     let p : j ≡ j - 1 + 1 = omega arith in
     rw e (laws.in-more _ l (l - 1) _ q (w .0) .1, w .1 ∙ index.idx-more _ l _ _ j (l - 1) (j - 1) q p (w .0), omega arith)
 
--- src/lib.rt:141:5
 found-at-requires : tie.Need-found-at-requires Inv-loop μ-loop
 found-at-requires c κs = (c .before .loop .inv .0, c .before .loop .inv .2)
 
--- src/lib.rt:123:1
 returns-2 : tie.Need-returns-2 Inv-loop μ-loop
 returns-2 c =
     let z : c .before .before .loop .i ≡ 0 = omega arith in

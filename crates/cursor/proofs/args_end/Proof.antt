@@ -1,14 +1,11 @@
-use mathlib.Core.Path.{_≡_, refl, sym, ap, ap₂, _∙_}
-use Prim.Native.Nat.{ℕ, _+_, _-_, _≤_, _<_}
+-- `cursor::args_end` meets its contract by its loop's invariant `Inv-loop`. Assumes nothing.
+use mathlib.Core.Path.{_≡_, refl, sym, ap, _∙_}
+use Prim.Native.Nat.{ℕ, _+_, _-_}
 use native.Mathlib.Omega.{arith}
-use lib.ListN.{length, getD, drop}
-use Rattle.cursor.specs.At.{argsAt, argsEnd, ArgsIn, argsOf, nextAt}
+use Rattle.cursor.specs.At.{argsEnd, ArgsIn, nextAt}
 use Rattle.cursor.specs.Steps as laws
 use Rattle.cursor.proofs.args_end.Statement.{statement}
 use Rattle.cursor.proofs.args_end.Tie as tie
-use Rattle.cursor.proofs.args_end.Reads as reads
-use Rattle.cursor.proofs.args_end.Lts as lts
-use Rattle.buffer.proofs.read_u32.Reads as read-u32-reads
 
 abbrev Inv-loop : tie.InvT-loop
 Inv-loop s at₀ left₀ at left = ArgsIn s left at × (argsEnd s left₀ at₀ ≡ argsEnd s left at)
@@ -16,39 +13,30 @@ Inv-loop s at₀ left₀ at left = ArgsIn s left at × (argsEnd s left₀ at₀ 
 abbrev μ-loop : tie.MeasureT-loop
 μ-loop s at₀ left₀ at left = left
 
--- src/lib.rt:95:5
 loop-holds : tie.Need-loop-holds Inv-loop μ-loop
 loop-holds c = (c .before .pre, refl)
 
--- src/lib.rt:96:14
 add-at : tie.Need-add-at Inv-loop μ-loop
 add-at c = let i = laws.in-first _ _ _ (λ z. omega arith) (c .before .loop .inv .0) .room in omega arith
 
--- src/lib.rt:96:43
 add-read-u32 : tie.Need-add-read-u32 Inv-loop μ-loop
 add-read-u32 c = let i = laws.in-first _ _ _ (λ z. omega arith) (c .before .loop .inv .0) .room in omega arith
 
--- src/lib.rt:96:23
 read-u32-requires : tie.Need-read-u32-requires Inv-loop μ-loop
 read-u32-requires c κs = let i = laws.in-first _ _ _ (λ z. omega arith) (c .before .loop .inv .0) .room in omega arith
 
--- src/lib.rt:96:23
 cast-at : tie.Need-cast-at Inv-loop μ-loop
 cast-at c = omega arith
 
--- src/lib.rt:96:14
 add-at-2 : tie.Need-add-at-2 Inv-loop μ-loop
 add-at-2 c = let i = laws.in-first _ _ _ (λ z. omega arith) (c .before .before .loop .inv .0) .inside in let e = c .read-u32 .ensures in omega arith
 
--- src/lib.rt:97:9
 sub-left : tie.Need-sub-left Inv-loop μ-loop
 sub-left c = omega arith
 
--- src/lib.rt:95:5
 loop-less : tie.Need-loop-less Inv-loop μ-loop
 loop-less c = omega arith
 
--- src/lib.rt:95:5
 loop-again : tie.Need-loop-again Inv-loop μ-loop
 loop-again c =
     let l : ℕ = c .before .before .loop .left in
@@ -58,7 +46,6 @@ loop-again c =
     let z : c .before .before .loop .at + 5 + c .read-u32 .result ≡ nextAt (c .before .before .before .before .args .s .now) (c .before .before .loop .at) = ap (λ (n : ℕ). c .before .before .loop .at + 5 + n) e in
     rw z (laws.in-more _ l (l - 1) _ q (w .0) .1, w .1 ∙ laws.end-more _ l (l - 1) _ q)
 
--- src/lib.rt:89:1
 returns : tie.Need-returns Inv-loop μ-loop
 returns c = sym (c .before .loop .inv .1 ∙ laws.end-none _ _ _ (omega arith))
 

@@ -1,54 +1,37 @@
-use mathlib.Core.Path.{_≡_, refl, sym, ap, ap₂, _∙_}
-use Prim.Native.Nat.{ℕ, _+_, _-_, _≤_, _<_}
-use native.Mathlib.Omega.{arith}
-use lib.ListN.{length, getD, drop}
-use Rattle.cursor.specs.At.{argsAt, argsEnd, ArgsIn, argsOf, nextAt}
-use Rattle.cursor.specs.Steps as laws
+-- `cursor::head_at` meets its contract. Assumes nothing.
+use Prim.Native.Nat.{_+_, _-_}
+use lib.ListN.{getD}
 use borrow.Author.Needs.{needs}
 use Rattle.cursor.proofs.head_at.Statement.{statement}
 use Rattle.cursor.proofs.head_at.Tie as tie
-use Rattle.cursor.proofs.head_at.Reads as reads
-use Rattle.cursor.proofs.head_at.Lts as lts
-use Rattle.buffer.proofs.read_u16.Reads as read-u16-reads
-use Rattle.buffer.proofs.read_u64.Reads as read-u64-reads
 
--- src/lib.rt:149:35
 add-read-u64 : tie.Need-add-read-u64
 add-read-u64 c = search needs
 
--- src/lib.rt:149:9
 read-u64-requires : tie.Need-read-u64-requires
 read-u64-requires c κs = search needs
 
--- src/lib.rt:150:38
 add-read-u64-2 : tie.Need-add-read-u64-2
 add-read-u64-2 c = search needs
 
--- src/lib.rt:150:9
 read-u64-requires-2 : tie.Need-read-u64-requires-2
 read-u64-requires-2 c κs = search needs
 
--- src/lib.rt:151:37
 add-read-u16 : tie.Need-add-read-u16
 add-read-u16 c = search needs
 
--- src/lib.rt:151:17
 read-u16-requires : tie.Need-read-u16-requires
 read-u16-requires c κs = search needs
 
--- src/lib.rt:151:17
 cast-count : tie.Need-cast-count
 cast-count c = search needs
 
--- src/lib.rt:153:13
 add-t7 : tie.Need-add-t7
 add-t7 c = search needs
 
--- src/lib.rt:157:16
 shared-slice-read-t10 : tie.Need-shared-slice-read-t10
 shared-slice-read-t10 c = search needs
 
--- src/lib.rt:145:1
 returns : tie.Need-returns
 returns c =
     λ i.

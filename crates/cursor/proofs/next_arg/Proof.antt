@@ -1,54 +1,39 @@
-use mathlib.Core.Path.{_≡_, refl, sym, ap, ap₂, _∙_}
-use Prim.Native.Nat.{ℕ, _+_, _-_, _≤_, _<_}
+-- `cursor::next_arg` meets its contract. Assumes nothing.
+use Prim.Native.Nat.{_-_}
 use native.Mathlib.Omega.{arith}
-use lib.ListN.{length, getD, drop}
-use Rattle.cursor.specs.At.{argsAt, argsEnd, ArgsIn, argsOf, nextAt}
 use Rattle.cursor.specs.Steps as laws
 use borrow.Author.Tests.{eq-eqb, ne-eqb}
 use borrow.Author.Needs.{needs}
 use Rattle.cursor.proofs.next_arg.Statement.{statement}
 use Rattle.cursor.proofs.next_arg.Tie as tie
-use Rattle.cursor.proofs.next_arg.Reads as reads
-use Rattle.cursor.proofs.next_arg.Lts as lts
-use Rattle.buffer.proofs.read_u32.Reads as read-u32-reads
 
--- src/lib.rt:73:9
 returns : tie.Need-returns
 returns c = rw (eq-eqb _ 0 (c .if1 .taken))
 
--- src/lib.rt:75:17
 add-start : tie.Need-add-start
 add-start c = let i = laws.in-first _ _ _ (c .if1 .left) (c .before .before .pre) .room in omega arith
 
--- src/lib.rt:76:43
 add-read-u32 : tie.Need-add-read-u32
 add-read-u32 c = let i = laws.in-first _ _ _ (c .if1 .left) (c .before .before .pre) .room in omega arith
 
--- src/lib.rt:76:23
 read-u32-requires : tie.Need-read-u32-requires
 read-u32-requires c κs = let i = laws.in-first _ _ _ (c .if1 .left) (c .before .before .pre) .room in omega arith
 
--- src/lib.rt:76:23
 cast-end : tie.Need-cast-end
 cast-end c = search needs
 
--- src/lib.rt:76:15
 add-end : tie.Need-add-end
 add-end c = let i = laws.in-first _ _ _ (c .before .if1 .left) (c .before .before .before .pre) .inside in let e = c .read-u32 .ensures in omega arith
 
--- src/lib.rt:79:15
 sub-t10 : tie.Need-sub-t10
 sub-t10 c = search needs
 
--- src/lib.rt:81:8
 shared-slice-read-if2 : tie.Need-shared-slice-read-if2
 shared-slice-read-if2 c = let i = laws.in-first _ _ _ (c .before .before .if1 .left) (c .before .before .before .before .pre) .room in omega arith
 
--- src/lib.rt:66:1
 returns-2 : tie.Need-returns-2
 returns-2 c = rw (ne-eqb _ 0 (c .before .before .before .if1 .left), eq-eqb _ 0 (c .if2 .taken), c .before .before .read-u32 .ensures)
 
--- src/lib.rt:66:1
 returns-3 : tie.Need-returns-3
 returns-3 c = rw (ne-eqb _ 0 (c .before .before .before .if1 .left), ne-eqb _ 0 (c .if2 .left), c .before .before .read-u32 .ensures)
 

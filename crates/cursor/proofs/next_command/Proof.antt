@@ -1,7 +1,6 @@
-use mathlib.Core.Path.{_≡_, refl, sym, ap, ap₂, _∙_}
-use Prim.Native.Nat.{ℕ, _+_, _-_, _≤_, _<_}
-use native.Mathlib.Omega.{arith}
-use lib.ListN.{length, getD, drop}
+-- `cursor::next_command` meets its contract. Assumes nothing.
+use mathlib.Core.Path.{ap, ap₂, _∙_}
+use Prim.Native.Nat.{_-_}
 use Rattle.cursor.specs.At.{argsEnd}
 use Rattle.cursor.specs.Steps as laws
 use borrow.Author.Tests.{eq-eqb, ne-eqb}
@@ -10,28 +9,19 @@ use Rattle.cursor.specs.declared.NextCommand.the-variants.{Command}
 use borrow.Author.Needs.{needs}
 use Rattle.cursor.proofs.next_command.Statement.{statement}
 use Rattle.cursor.proofs.next_command.Tie as tie
-use Rattle.cursor.proofs.next_command.Reads as reads
-use Rattle.cursor.proofs.next_command.Lts as lts
-use Rattle.cursor.proofs.args_end.Reads as args-end-reads
-use Rattle.cursor.proofs.head_at.Reads as head-at-reads
 
--- src/lib.rt:171:9
 returns : tie.Need-returns
 returns c = rw (eq-eqb _ 0 (c .if1 .taken))
 
--- src/lib.rt:173:9
 head-at-requires : tie.Need-head-at-requires
 head-at-requires c κs = laws.commands-in _ _ _ _ (laws.one-more _ (c .if1 .left)) (c .before .before .pre) .0
 
--- src/lib.rt:175:9
 args-end-requires : tie.Need-args-end-requires
 args-end-requires c κs = rw (c .before .head-at .ensures) (laws.commands-in _ _ _ _ (laws.one-more _ (c .before .before .if1 .left)) (c .before .before .before .before .pre) .1)
 
--- src/lib.rt:180:19
 sub-t9 : tie.Need-sub-t9
 sub-t9 c = search needs
 
--- src/lib.rt:164:1
 returns-2 : tie.Need-returns-2
 returns-2 c =
     let h = c .before .before .head-at .ensures in

@@ -1,0 +1,3 @@
+pub mod Pack
+pub mod Laws
+pub mod Examples

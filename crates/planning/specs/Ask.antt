@@ -1,0 +1,123 @@
+-- How far a command of a call record gets in planning, and which keys it then asks for: the first half of document 01's "Planning
+-- (`get_cached_pipeline`)", each sentence quoted above the definition that says it, in 01's order. Assumes nothing: these are definitions.
+-- Letters: s settings, t clock, c command, n name, k key, x client expiry.
+use Prim.Native.Nat.{ℕ, _+_, _^_}
+use mathlib.Core.Bool.{Bool, true, false, cond, _||_}
+use mathlib.Core.List.{List, [], _∷_}
+use lib.Dec.{leb}
+use Rattle.buffer.specs.Same.{Bytes}
+use Rattle.config.specs.declared.CacheMode.{CacheMode}
+use Rattle.config.specs.declared.CacheMode.the-variants.{All, OptIn}
+use Rattle.config.specs.declared.Settings.{Settings}
+use Rattle.commands.specs.Names.{isCacheable}
+use Rattle.commands.specs.MultiKey.{multiKey}
+use Rattle.commands.specs.declared.MultiKey.{MultiKey}
+use Rattle.commands.specs.declared.MultiKey.the-variants.{None, Mget, JsonMget}
+use Rattle.call_record.specs.Record.{Argument, simple, cursor, Command, ignored, enableCache, hasTtl}
+
+-- ---- How far a command gets
+
+pub data Reach : Type 0 where
+  -- "An ignored command is sent and not looked up."
+  skipped : Reach
+  -- it is stopped as not cacheable
+  stopped : Reach
+  -- it gets as far as its client expiry, with its name
+  named : Bytes → Reach
+
+-- "Opt-in mode caches only commands with `enable_cache`. Mode All ignores that flag."
+unfoldable pub takesPart : CacheMode → Command → Bool
+takesPart All c = true
+takesPart OptIn c = enableCache c
+
+-- "No name, an empty name or a cursor as name: not cacheable. `cmd_len` < 2 counts packed bytes and never occurs."
+unfoldable pub reachBy : List Argument → Reach
+reachBy [] = stopped
+reachBy (simple [] ∷ l) = stopped
+reachBy (simple (b ∷ bs) ∷ l) = named (b ∷ bs)
+reachBy (cursor ∷ l) = stopped
+
+-- all three, in this order
+unfoldable pub reach : CacheMode → Command → Reach
+reach m c = cond (ignored c) skipped (cond (takesPart m c) (reachBy (c .args)) stopped)
+
+-- ---- "Client expiry = clock + TTL (in either mode the command's client TTL if present, else the default), worked out for every command that
+-- gets this far."
+
+unfoldable pub clientExpiry : Settings → ℕ → Command → ℕ
+clientExpiry s t c = t + cond (hasTtl c) (c .ttl) (s .ttl)
+
+-- cause 4: "client expiry past 2^64 - 1", where one is worked out
+unfoldable pub pastEnd : Reach → ℕ → Bool
+pastEnd skipped x = false
+pastEnd stopped x = false
+pastEnd (named n) x = leb (2 ^ 64) x
+
+-- of any command
+unfoldable pub anyLate : Settings → ℕ → List Command → Bool
+anyLate s t [] = false
+anyLate s t (c ∷ cs) = pastEnd (reach (s .mode) c) (clientExpiry s t c) || anyLate s t cs
+
+-- ---- Keys
+
+-- what planning asks the cache for a command, before any answer
+pub data Ask : Type 0 where
+  -- nothing, since it is ignored
+  nothing : Ask
+  -- nothing, since it is not cacheable
+  uncacheable : Ask
+  -- one key; client expiry
+  oneKey : Bytes → ℕ → Ask
+  -- several: the command's name, the keys, the path (at most one argument); client expiry
+  severalKeys : Bytes → List Bytes → List Bytes → ℕ → Ask
+
+-- the simple arguments, in order
+unfoldable pub simples : List Argument → List Bytes
+simples [] = []
+simples (simple b ∷ l) = b ∷ simples l
+simples (cursor ∷ l) = simples l
+
+-- "simple arguments after the name"
+unfoldable pub afterName : List Argument → List Bytes
+afterName [] = []
+afterName (a ∷ l) = simples l
+
+-- all but the last
+unfoldable pub butLast : List Bytes → List Bytes
+butLast [] = []
+butLast (b ∷ []) = []
+butLast (b ∷ (d ∷ l)) = b ∷ butLast (d ∷ l)
+
+-- the last alone, if there is one
+unfoldable pub lastOnly : List Bytes → List Bytes
+lastOnly [] = []
+lastOnly (b ∷ []) = b ∷ []
+lastOnly (b ∷ (d ∷ l)) = lastOnly (d ∷ l)
+
+-- "argument 1 is the key. No argument 1: not cacheable. A cursor there panics in Rust; here it is not cacheable."
+unfoldable pub askOne : List Argument → ℕ → Ask
+askOne [] x = uncacheable
+askOne (a ∷ []) x = uncacheable
+askOne (a ∷ (simple k ∷ l)) x = oneKey k x
+askOne (a ∷ (cursor ∷ l)) x = uncacheable
+
+-- "`MGET` and `JSON.MGET`: simple arguments after the name are keys. For JSON the last one is taken off as path." "Otherwise the name must be in
+-- the ReadOnlyCacheable arm of `command_properties`, in capitals;"
+unfoldable pub askBy : MultiKey → Bytes → List Argument → ℕ → Ask
+askBy Mget n l x = severalKeys n (afterName l) [] x
+askBy JsonMget n l x = severalKeys n (butLast (afterName l)) (lastOnly (afterName l)) x
+askBy None n l x = cond (isCacheable n) (askOne l x) uncacheable
+
+-- by how far the command gets
+unfoldable pub askFrom : Reach → List Argument → ℕ → Ask
+askFrom skipped l x = nothing
+askFrom stopped l x = uncacheable
+askFrom (named n) l x = askBy (multiKey n) n l x
+
+unfoldable pub ask : Settings → ℕ → Command → Ask
+ask s t c = askFrom (reach (s .mode) c) (c .args) (clientExpiry s t c)
+
+-- one name that opens every definition of this page, for cases that compute
+unfoldable pub ask-defs : Unit {0}
+unfolding takesPart reachBy reach clientExpiry pastEnd anyLate simples afterName butLast lastOnly askOne askBy askFrom ask
+ask-defs = tt

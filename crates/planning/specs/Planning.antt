@@ -1,0 +1,68 @@
+-- The whole of planning on a call record that is one: its lookups, what it writes and answers, and the call that the book is fed. Assumes nothing: these
+-- are definitions.
+-- Letters: s settings, t clock, e epoch, r call record.
+use Prim.Native.Nat.{ℕ}
+use mathlib.Core.Bool.{Bool, cond, _||_}
+use mathlib.Core.List.{List}
+use lib.Dec.{ltb}
+use lib.ListN.{length}
+use Rattle.buffer.specs.Same.{Bytes}
+use Rattle.config.specs.Causes.{lateExpiry, shortBuffer}
+use Rattle.config.specs.declared.Settings.{Settings}
+use Rattle.call_record.specs.Record.{Record, transaction}
+use Rattle.book.specs.Book.{Setup, Book, Answer, answers}
+use Rattle.book.specs.Calls.{Call, planning, refused, lookups, ons}
+use Rattle.planning.specs.Ask.{anyLate}
+use Rattle.planning.specs.Outcome.{CachingResult, wanted, outcomes}
+use Rattle.planning.specs.Sent.{sent, wrapped, sentBytes, Responses, responses}
+use Rattle.planning.specs.Plan.{planOf, encPlan}
+
+-- what planning writes to the plan and the send buffer, and the response counts that it answers
+pub record Planned : Type 0 where
+  pub plan : Bytes
+  pub send : Bytes
+  pub counts : Responses
+
+-- by the outcomes of its commands
+unfoldable pub plannedBy : Settings → Record → List CachingResult → Planned
+plannedBy s r rs =
+    record {
+      plan = encPlan (planOf (transaction r) rs);
+      send = sentBytes (wrapped (transaction r) (sent (s .mode) (r .commands) rs));
+      counts = responses (transaction r) (length (sent (s .mode) (r .commands) rs));
+    }
+
+-- by the answers to its lookups
+unfoldable pub plannedFrom : Settings → ℕ → Record → List Answer → Planned
+plannedFrom s t r said = plannedBy s r (outcomes s t (r .commands) said)
+
+-- cause 5: "A buffer is short exactly if the bytes to be written are more than it holds."
+unfoldable pub short : Settings → ℕ → Record → ℕ → ℕ → List Answer → Bool
+short s t r planRoom sendRoom said =
+    ltb planRoom (length (plannedFrom s t r said .plan)) || ltb sendRoom (length (plannedFrom s t r said .send))
+
+-- the call that the book is fed: "A planning is its lookups in order"; cause 4 refuses it whatever they would answer
+unfoldable pub callOf : Settings → ℕ → ℕ → Record → ℕ → ℕ → Call
+callOf s t e r planRoom sendRoom =
+    cond (anyLate s t (r .commands)) refused (planning t e (wanted s t (r .commands)) (short s t r planRoom sendRoom))
+
+-- a cause's number, or what is written
+pub data PlanAnswer : Type 0 where
+  because : ℕ → PlanAnswer
+  done : Planned → PlanAnswer
+
+-- what planning answers, by what its lookups answer; "in planning 3, 2, 4, 5"
+unfoldable pub planAnswer : Settings → ℕ → Record → ℕ → ℕ → List Answer → PlanAnswer
+planAnswer s t r planRoom sendRoom said =
+    cond (anyLate s t (r .commands)) (because lateExpiry)
+    (cond (short s t r planRoom sendRoom said) (because shortBuffer) (done (plannedFrom s t r said)))
+
+-- on a book
+unfoldable pub planOn : Setup → Book → Settings → ℕ → ℕ → Record → ℕ → ℕ → PlanAnswer
+planOn p bk s t e r planRoom sendRoom =
+    planAnswer s t r planRoom sendRoom (answers p (ons (lookups t e (wanted s t (r .commands)))) bk)
+
+-- one name that opens every definition of this page, for cases that compute
+unfoldable pub planning-defs : Unit {0}
+unfolding plannedBy plannedFrom short callOf planAnswer planOn
+planning-defs = tt

@@ -1,0 +1,1 @@
+// No code: document 01's planning is definitions and theorems, in specs/.
