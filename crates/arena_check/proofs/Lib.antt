@@ -1,0 +1,5 @@
+pub mod Laws
+pub mod Walks
+pub mod Marks
+pub mod Items
+pub mod Shards

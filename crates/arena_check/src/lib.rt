@@ -1,0 +1,236 @@
+// Whether bytes are an image of the arena: the test behind cause 9, of every call that is lent an arena. It goes over each byte once; the keys of
+// a shard are compared only where their hashes share a mark.
+ghost use mathlib.Core.Bool.{false};
+ghost use mathlib.Core.Path.{_≡_};
+ghost use Prim.Native.Nat.{ℕ, _+_, _*_, _-_, _^_, _≤_, _<_};
+ghost use lib.ListN.{length};
+ghost use Rattle.buffer.specs.Field.{read32};
+ghost use Rattle.buffer.specs.Part.{part};
+ghost use Rattle.buffer.specs.Same.{same};
+ghost use Rattle.resp3.specs.Ends.{isValue};
+ghost use Rattle.arena_check.specs.Walk.{nth, before};
+ghost use Rattle.siphash.specs.Sip.{sipHash13};
+ghost use Rattle.arena.specs.Decode.{isImage};
+ghost use Rattle.arena.specs.Sizes.{setupOf};
+ghost use Rattle.arena_check.specs.Home.{homeIn, markOf, marks};
+ghost use Rattle.arena_check.specs.Check.{keyIn, nextIn, keyAt, itemNext, itemWithin, entryOk, entriesEnd, itemOk, itemsEnd, shardOk};
+
+// Whether two ranges of s have the same bytes.
+fn same_part(s: &[u8], a: usize, n: usize, b: usize, m: usize) -> bool
+    requires { ⌜ (a + n ≤ length (now s)) × (b + m ≤ length (now s)) ⌝ }
+    ensures { λ r. ⌜ r ≡ same (part (now (s .entry)) a n) (part (now (s .entry)) b m) ⌝ }
+{
+    let e = a + n;
+    let d = b + m;
+    buffer::same(&s[a..e], &s[b..d])
+}
+
+// Where the thing at p ends. A thing has a head of h bytes, its key's length at the head's start and the length of what follows its key at f.
+fn next_place(s: &[u8], h: usize, f: usize, p: usize) -> usize
+    requires { ⌜ (nextIn h f (now s) p ≤ length (now s)) × (4 ≤ h) × (f + 4 ≤ h) × (length (now s) < 2 ^ 32) ⌝ }
+    ensures { λ r. ⌜ r ≡ nextIn h f (now (s .entry)) p ⌝ }
+{
+    let key = buffer::read_u32(s, p) as usize;
+    let rest = buffer::read_u32(s, p + f) as usize;
+    p + h + key + rest
+}
+
+// Whether one of the n things from `from` on has the key of the thing at `at`; h and f as above.
+fn key_before(s: &[u8], h: usize, f: usize, n: usize, from: usize, at: usize) -> bool
+    requires { ⌜ ((k : ℕ) → k < n → nextIn h f (now s) (nth (nextIn h f (now s)) k from) ≤ length (now s))
+        × (nextIn h f (now s) at ≤ length (now s)) × (4 ≤ h) × (f + 4 ≤ h) × (length (now s) < 2 ^ 32) ⌝ }
+    ensures { λ r. ⌜ r ≡ before (keyIn h (now (s .entry))) (nextIn h f (now (s .entry))) n from at ⌝ }
+{
+    let key = at + h;
+    let len = buffer::read_u32(s, at) as usize;
+    let mut p = from;
+    let mut k = 0;
+    while k < n {
+        let m = buffer::read_u32(s, p) as usize;
+        if same_part(s, p + h, m, key, len) {
+            return true;
+        }
+        p = p + h + m + buffer::read_u32(s, p + f) as usize;
+        k += 1;
+    }
+    false
+}
+
+// Whether an entry stands at `at`, within `end`.
+fn entry_ok(s: &[u8], end: usize, at: usize) -> bool
+    requires { ⌜ (at ≤ end) × (end ≤ length (now s)) × (length (now s) < 2 ^ 32) ⌝ }
+    ensures { λ r. ⌜ r ≡ entryOk isValue (now (s .entry)) end at ⌝ }
+{
+    if end - at < 16 {
+        return false;
+    }
+    let c = buffer::read_u32(s, at) as usize;
+    let v = buffer::read_u32(s, at + 4) as usize;
+    let from = at + 16 + c;
+    let next = from + v;
+    if next > end {
+        return false;
+    }
+    if !buffer::all_zero(s, at + 8, at + 16) {
+        return false;
+    }
+    if c > config::MAX_BYTES {
+        return false;
+    }
+    resp3::is_value(&s[from..next])
+}
+
+// Where n entries end that stand from `first` on, within `end`; 0 where they do not, or a command key is there twice.
+fn entries_end(s: &[u8], end: usize, n: usize, first: usize) -> usize
+    requires { ⌜ (first ≤ end) × (end ≤ length (now s)) × (length (now s) < 2 ^ 32) ⌝ }
+    ensures { λ r. ⌜ r ≡ entriesEnd isValue (now (s .entry)) end n first ⌝ }
+{
+    let mut at = first;
+    let mut i = 0;
+    while i < n {
+        if !entry_ok(s, end, at) {
+            return 0;
+        }
+        if key_before(s, 16, 4, i, first, at) {
+            return 0;
+        }
+        at = next_place(s, 16, 4, at);
+        i += 1;
+    }
+    at
+}
+
+// Whether the item at `at` is within `end`, by its lengths.
+fn item_within(s: &[u8], end: usize, at: usize) -> bool
+    requires { ⌜ (at ≤ end) × (end ≤ length (now s)) × (length (now s) < 2 ^ 32) ⌝ }
+    ensures { λ r. ⌜ r ≡ itemWithin (now (s .entry)) end at ⌝ }
+{
+    if end - at < 32 {
+        return false;
+    }
+    let k = buffer::read_u32(s, at) as usize;
+    let e = buffer::read_u32(s, at + 24) as usize;
+    at + 32 + k + e <= end
+}
+
+// The hash of the key of the item at `at`.
+fn key_hash(s: &[u8], at: usize) -> u64
+    requires { ⌜ (itemNext (now s) at ≤ length (now s)) × (length (now s) < 2 ^ 32) ⌝ }
+    ensures { λ r. ⌜ r ≡ sipHash13 (keyAt (now (s .entry)) at) ⌝ }
+{
+    let from = at + 32;
+    let to = from + buffer::read_u32(s, at) as usize;
+    siphash::sip_hash_13(&s[from..to])
+}
+
+// Whether an item of that shard stands at `at`, within `end`; its lengths are, and its key's hash is given.
+fn item_ok(s: &[u8], shards: usize, shard: usize, end: usize, at: usize, hash: u64) -> bool
+    requires { ⌜ (at + 32 ≤ end) × (itemNext (now s) at ≤ end) × (end ≤ length (now s)) × (length (now s) < 2 ^ 32) × (hash ≡ sipHash13 (keyAt (now s) at)) × (0 < shards) ⌝ }
+    ensures { λ r. ⌜ r ≡ itemOk isValue (homeIn shards) (now (s .entry)) shard end at ⌝ }
+{
+    if !buffer::all_zero(s, at + 28, at + 32) {
+        return false;
+    }
+    let k = buffer::read_u32(s, at) as usize;
+    if k > config::MAX_KEY {
+        return false;
+    }
+    if hash as usize % shards != shard {
+        return false;
+    }
+    let n = buffer::read_u32(s, at + 4) as usize;
+    if n < 1 {
+        return false;
+    }
+    let next = next_place(s, 32, 24, at);
+    entries_end(s, next, n, at + 32 + k) == next
+}
+
+// The mark of a hash.
+fn mark_of(hash: u64) -> usize
+    ensures { λ r. ⌜ (r ≡ markOf hash) × (r < marks) ⌝ }
+{
+    (hash / 65536 % 16384) as usize
+}
+
+// Whether one of the n items before the one at `at` has its key. Where its mark is not set none has, and they are not looked at.
+fn repeated(s: &[u8], mark: u8, n: usize, at: usize) -> bool
+    requires { ⌜ ((k : ℕ) → k < n → itemNext (now s) (nth (itemNext (now s)) k 16) ≤ length (now s)) × (itemNext (now s) at ≤ length (now s))
+        × (length (now s) < 2 ^ 32) × (mark ≡ 0 → before (keyAt (now s)) (itemNext (now s)) n 16 at ≡ false) ⌝ }
+    ensures { λ r. ⌜ r ≡ before (keyAt (now (s .entry))) (itemNext (now (s .entry))) n 16 at ⌝ }
+{
+    if mark == 0 {
+        return false;
+    }
+    key_before(s, 32, 24, n, 16, at)
+}
+
+// Where n items of that shard end that stand from byte 16 on, within `end`; 0 where they do not, or a key is there twice.
+fn items_end(s: &[u8], shards: usize, shard: usize, end: usize, n: usize) -> usize
+    requires { ⌜ (16 ≤ end) × (end ≤ length (now s)) × (length (now s) < 2 ^ 32) × (0 < shards) ⌝ }
+    ensures { λ r. ⌜ r ≡ itemsEnd isValue (homeIn shards) (now (s .entry)) shard end n ⌝ }
+{
+    let mut seen = [0u8; 16384];
+    let mut at = 16;
+    let mut i = 0;
+    while i < n {
+        if !item_within(s, end, at) {
+            return 0;
+        }
+        let hash = key_hash(s, at);
+        if !item_ok(s, shards, shard, end, at, hash) {
+            return 0;
+        }
+        let mark = mark_of(hash);
+        if repeated(s, seen[mark], i, at) {
+            return 0;
+        }
+        seen[mark] = 1;
+        at = next_place(s, 32, 24, at);
+        i += 1;
+    }
+    at
+}
+
+// Whether the bytes are those of the shard of that number, which holds so many keys.
+fn shard_ok(s: &[u8], shards: usize, shard: usize, keys: usize) -> bool
+    requires { ⌜ (16 ≤ length (now s)) × (length (now s) < 2 ^ 32) × (0 < shards) ⌝ }
+    ensures { λ r. ⌜ r ≡ shardOk isValue (homeIn shards) keys (now (s .entry)) shard ⌝ }
+{
+    let n = buffer::read_u32(s, 0) as usize;
+    if n > keys {
+        return false;
+    }
+    let end = 16 + buffer::read_u32(s, 4) as usize;
+    if end > s.len() {
+        return false;
+    }
+    if !buffer::all_zero(s, 8, 16) {
+        return false;
+    }
+    if !buffer::all_zero(s, end, s.len()) {
+        return false;
+    }
+    items_end(s, shards, shard, end, n) == end
+}
+
+// Whether the bytes are an image of the arena, for so many shards of so many keys and bytes each.
+pub fn is_image(arena: &[u8], shards: usize, keys: usize, bytes: usize) -> bool
+    requires { ⌜ (0 < shards) × (16 ≤ bytes) × (bytes < 2 ^ 32) × (shards * bytes ≤ length (now arena)) ⌝ }
+    ensures { λ r. ⌜ r ≡ isImage isValue (setupOf sipHash13 shards keys bytes) (now (arena .entry)) ⌝ }
+{
+    let all = shards * bytes;
+    if !buffer::all_zero(arena, all, arena.len()) {
+        return false;
+    }
+    let mut i = shards;
+    while 0 < i {
+        i -= 1;
+        let from = i * bytes;
+        let to = from + bytes;
+        if !shard_ok(&arena[from..to], shards, i, keys) {
+            return false;
+        }
+    }
+    true
+}

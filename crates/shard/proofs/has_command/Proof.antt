@@ -1,0 +1,40 @@
+-- `has_command` meets its contract: command keys of different lengths differ. Assumes nothing.
+use mathlib.Core.Path.{_≡_, sym, ap, _∙_}
+use Prim.Native.Nat.{ℕ, _+_}
+use native.Mathlib.Omega.{arith}
+use lib.ListN.{length}
+use Rattle.buffer.specs.Part.{part}
+use Rattle.buffer.specs.Same.{Bytes, same, same-length}
+use Rattle.book.specs.Rows.{same-comm}
+use Rattle.shard.proofs.Entries.{entry-fields}
+use borrow.Author.Needs.{needs}
+use Rattle.shard.proofs.has_command.Statement.{statement}
+use Rattle.shard.proofs.has_command.Tie as tie
+
+read-u32-requires : tie.Need-read-u32-requires
+read-u32-requires c κs = let f = entry-fields (c .before .before .pre .stands) in omega arith
+
+cast-if1 : tie.Need-cast-if1
+cast-if1 c = search needs
+
+returns : tie.Need-returns
+returns c en w = let f = entry-fields w in sym (same-length _ _ (λ e. c .if1 .taken (omega arith)))
+
+add-same-at : tie.Need-add-same-at
+add-same-at c = let f = entry-fields (c .before .before .before .before .pre .stands) in omega arith
+
+same-at-requires : tie.Need-same-at-requires
+same-at-requires c κs = let f = entry-fields (c .before .before .before .before .pre .stands) in omega arith
+
+returns-2 : tie.Need-returns-2
+returns-2 c en w =
+    let a = c .before .before .before .before .before .args in
+    let f = entry-fields w in
+    let l : length (a .command .now) ≡ length (en .command) = omega arith in
+    let p : part (a .s .now) (a .at + 16) (length (a .command .now)) ≡ en .command =
+    ap (λ (n : ℕ). part (a .s .now) (a .at + 16) n) l ∙ f .command in
+    c .same-at .ensures ∙ ap (λ (z : Bytes). same z (a .command .now)) p ∙ same-comm (en .command) (a .command .now)
+
+pub has-command-spec : {M : Type 1} → statement M
+has-command-spec =
+    tie.close (tie.spec read-u32-requires cast-if1 returns add-same-at same-at-requires returns-2)

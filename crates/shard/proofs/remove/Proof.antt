@@ -1,0 +1,84 @@
+-- `remove` meets its contract: the steps of `taken-out`. Assumes nothing.
+use native.Mathlib.Omega.{arith}
+use Rattle.shard.proofs.Fields.{fields, count-read, used-read}
+use Rattle.shard.proofs.Edits.{taken-out}
+use borrow.Author.Needs.{needs}
+use Rattle.shard.proofs.remove.Statement.{statement}
+use Rattle.shard.proofs.remove.Tie as tie
+
+item-len-requires : tie.Need-item-len-requires
+item-len-requires c κs = search needs
+
+read-u32-requires : tie.Need-read-u32-requires
+read-u32-requires c κs = search needs
+
+read-u32-requires-2 : tie.Need-read-u32-requires-2
+read-u32-requires-2 c κs = search needs
+
+cast-used : tie.Need-cast-used
+cast-used c = search needs
+
+add-resize : tie.Need-add-resize
+add-resize c =
+    let w = c .before .before .before .before .before .before .before .before .pre in
+    let f = fields (w .stands) in
+    let e = c .before .before .before .before .before .item-len .ensures (w .front) (w .back) (w .item) (w .stands) in
+    omega arith
+
+add-resize-2 : tie.Need-add-resize-2
+add-resize-2 c = search needs
+
+resize-requires : tie.Need-resize-requires
+resize-requires c κs =
+    let w = c .before .before .before .before .before .before .before .before .pre in
+    let f = fields (w .stands) in
+    let e = c .before .before .before .before .before .item-len .ensures (w .front) (w .back) (w .item) (w .stands) in
+    omega arith
+
+sub-write-u32 : tie.Need-sub-write-u32
+sub-write-u32 c = let f = fields (c .before .before .before .before .before .before .before .before .before .before .before .before .pre .stands) in omega arith
+
+write-u32-requires : tie.Need-write-u32-requires
+write-u32-requires c κs = search needs
+
+sub-write-u32-2 : tie.Need-sub-write-u32-2
+sub-write-u32-2 c =
+    let w = c .before .before .before .before .before .before .before .before .before .before .before .before .before .before .before .before .pre in
+    let f = fields (w .stands) in
+    let e = c .before .before .before .before .before .before .before .before .before .before .before .before .before .item-len .ensures (w .front) (w .back) (w .item) (w .stands) in
+    omega arith
+
+cast-write-u32 : tie.Need-cast-write-u32
+cast-write-u32 c = search needs
+
+write-u32-requires-2 : tie.Need-write-u32-requires-2
+write-u32-requires-2 c κs = search needs
+
+same-length : tie.Need-same-length
+same-length c = search needs
+
+returns : tie.Need-returns
+returns c front back it w =
+    let e = c .before .before .before .before .before .before .before .before .before .before .before .before .before .before .before .before .item-len .ensures front back it w in
+    let n = count-read (w .holds) in
+    let u = used-read (w .holds) in
+    cc (taken-out w)
+
+pub remove-spec : {M : Type 1} → statement M
+remove-spec =
+    tie.close
+    (tie.spec
+    item-len-requires
+    read-u32-requires
+    read-u32-requires-2
+    cast-used
+    add-resize
+    add-resize-2
+    resize-requires
+    sub-write-u32
+    write-u32-requires
+    sub-write-u32-2
+    cast-write-u32
+    write-u32-requires-2
+    same-length
+    returns)

@@ -1,0 +1,5 @@
+pub mod Holds
+pub mod Position
+pub mod Looked
+pub mod Cases
+pub mod FromImage

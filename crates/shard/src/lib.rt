@@ -1,0 +1,266 @@
+// The cache's operations in place, on the bytes of one shard: find, touch, remove, invalidate, look up.
+//
+// Every function is lent bytes that hold a row (specs/Holds.antt), as the entry points have checked; none tests that again. A contract speaks
+// of the row that the bytes hold, or of the item that stands at the place given.
+ghost use mathlib.Core.Path.{_≡_};
+ghost use mathlib.Core.List.{[], _∷_, _++_};
+ghost use lib.ListN.{length};
+ghost use Rattle.buffer.specs.Same.{same};
+ghost use Rattle.book.specs.Book.{Entry, Item, Row, find, without, entriesOf, rowEntries};
+ghost use Rattle.arena.specs.Layout.{encShard};
+ghost use Rattle.arena.specs.Edit.{itemBytes};
+ghost use Rattle.shard.specs.Holds.{Holds, Shard, Stands, ItemAt, EntryStands, EntryAt};
+ghost use Rattle.shard.specs.Position.{positionOf, entrySize, entryOf};
+ghost use Rattle.shard.specs.Looked.{Reads, lookupOn, Told};
+
+// Where something begins, if it is there.
+pub enum Position {
+    At(usize),
+    Absent,
+}
+
+// The bytes that the item at `at` takes.
+pub fn item_len(s: &[u8], at: usize) -> usize
+    requires { ⌜ ItemAt (now s) at ⌝ }
+    ensures { λ r. ⌜ ((front back : Row) (it : Item) → Stands (now (s .entry)) at front back it → r ≡ itemBytes it) ⌝ }
+{
+    let key = buffer::read_u32(s, at) as usize;
+    let entries = buffer::read_u32(s, at + 24) as usize;
+    32 + key + entries
+}
+
+// How many entries the item at `at` has.
+pub fn entry_count(s: &[u8], at: usize) -> usize
+    requires { ⌜ ItemAt (now s) at ⌝ }
+    ensures { λ r. ⌜ ((front back : Row) (it : Item) → Stands (now (s .entry)) at front back it → r ≡ length (it .entries)) ⌝ }
+{
+    buffer::read_u32(s, at + 4) as usize
+}
+
+// The epoch of the item at `at`.
+pub fn epoch_of(s: &[u8], at: usize) -> u64
+    requires { ⌜ ItemAt (now s) at ⌝ }
+    ensures { λ r. ⌜ ((front back : Row) (it : Item) → Stands (now (s .entry)) at front back it → r ≡ it .epoch) ⌝ }
+{
+    buffer::read_u64(s, at + 8)
+}
+
+// The expiry of the item at `at`.
+fn expiry_of(s: &[u8], at: usize) -> u64
+    requires { ⌜ ItemAt (now s) at ⌝ }
+    ensures { λ r. ⌜ ((front back : Row) (it : Item) → Stands (now (s .entry)) at front back it → r ≡ it .expiry) ⌝ }
+{
+    buffer::read_u64(s, at + 16)
+}
+
+// Whether the item at `at` has this key. The lengths are compared first.
+fn has_key(s: &[u8], at: usize, key: &[u8]) -> bool
+    requires { ⌜ ItemAt (now s) at ⌝ }
+    ensures { λ r. ⌜ ((front back : Row) (it : Item) → Stands (now (s .entry)) at front back it → r ≡ same (now (key .entry)) (it .key)) ⌝ }
+{
+    if buffer::read_u32(s, at) as usize != key.len() {
+        return false;
+    }
+    buffer::same_at(s, at + 32, key)
+}
+
+// Where the key's item stands.
+pub fn find(s: &[u8], key: &[u8]) -> Position
+    requires { ⌜ Shard (now s) ⌝ }
+    ensures { λ r. ⌜ ((row : Row) → Holds (now (s .entry)) row → r ≡ positionOf (now (key .entry)) row) ⌝ }
+{
+    let end = 16 + buffer::read_u32(s, 4) as usize;
+    let mut at: usize = 16;
+    while at < end {
+        if has_key(s, at, key) {
+            return Position::At(at);
+        }
+        at = at + item_len(s, at);
+    }
+    Position::Absent
+}
+
+// Brings the item at `at` to the front: it is the newest then.
+pub fn touch(s: &mut [u8], at: usize)
+    requires { ⌜ ItemAt (now s) at ⌝ }
+    ensures { λ _. ⌜ ((front back : Row) (it : Item) → Stands (now (s .entry)) at front back it → now (s .exit) ≡ encShard (length (now (s .entry))) (it ∷ (front ++ back))) ⌝ }
+{
+    let end = at + item_len(s, at);
+    buffer::rotate(s, 16, at, end);
+}
+
+// Takes the item at `at` out.
+pub fn remove(s: &mut [u8], at: usize)
+    requires { ⌜ ItemAt (now s) at ⌝ }
+    ensures { λ _. ⌜ ((front back : Row) (it : Item) → Stands (now (s .entry)) at front back it → now (s .exit) ≡ encShard (length (now (s .entry))) (front ++ back)) ⌝ }
+{
+    let size = item_len(s, at);
+    let count = buffer::read_u32(s, 0);
+    let used = buffer::read_u32(s, 4) as usize;
+    buffer::resize(s, at, at + size, 16 + used, 0);
+    buffer::write_u32(s, 0, count - 1);
+    buffer::write_u32(s, 4, (used - size) as u32);
+}
+
+// Drops the key's item, and answers how many entries it had.
+pub fn invalidate_in(s: &mut [u8], key: &[u8]) -> usize
+    requires { ⌜ Shard (now s) ⌝ }
+    ensures { λ r. ⌜ ((row : Row) → Holds (now (s .entry)) row → (now (s .exit) ≡ encShard (length (now (s .entry))) (without (now (key .entry)) row)) × (r ≡ entriesOf (find (now (key .entry)) row))) ⌝ }
+{
+    match find(s, key) {
+        Position::At(at) => {
+            let dropped = entry_count(s, at);
+            remove(s, at);
+            dropped
+        }
+        Position::Absent => 0,
+    }
+}
+
+// How many entries the shard has.
+fn all_entries(s: &[u8]) -> usize
+    requires { ⌜ Shard (now s) ⌝ }
+    ensures { λ r. ⌜ ((row : Row) → Holds (now (s .entry)) row → r ≡ rowEntries row) ⌝ }
+{
+    let end = 16 + buffer::read_u32(s, 4) as usize;
+    let mut at: usize = 16;
+    let mut n: usize = 0;
+    while at < end {
+        n = n + entry_count(s, at);
+        at = at + item_len(s, at);
+    }
+    n
+}
+
+// Drops every item, and answers how many entries they had. The bytes behind the items are zero already.
+pub fn clear(s: &mut [u8]) -> usize
+    requires { ⌜ Shard (now s) ⌝ }
+    ensures { λ r. ⌜ ((row : Row) → Holds (now (s .entry)) row → (now (s .exit) ≡ encShard (length (now (s .entry))) []) × (r ≡ rowEntries row)) ⌝ }
+{
+    let n = all_entries(s);
+    let end = 16 + buffer::read_u32(s, 4) as usize;
+    buffer::fill_zero(s, 0, end);
+    n
+}
+
+// The bytes that the entry at `at` takes.
+pub fn entry_len(s: &[u8], at: usize) -> usize
+    requires { ⌜ EntryAt (now s) at ⌝ }
+    ensures { λ r. ⌜ ((en : Entry) → EntryStands (now (s .entry)) at en → r ≡ entrySize en) ⌝ }
+{
+    let command = buffer::read_u32(s, at) as usize;
+    let value = buffer::read_u32(s, at + 4) as usize;
+    16 + command + value
+}
+
+// Whether the entry at `at` is this command key's. The lengths are compared first.
+fn has_command(s: &[u8], at: usize, command: &[u8]) -> bool
+    requires { ⌜ EntryAt (now s) at ⌝ }
+    ensures { λ r. ⌜ ((en : Entry) → EntryStands (now (s .entry)) at en → r ≡ same (now (command .entry)) (en .command)) ⌝ }
+{
+    if buffer::read_u32(s, at) as usize != command.len() {
+        return false;
+    }
+    buffer::same_at(s, at + 16, command)
+}
+
+// Where the command key's entry stands in the item at `at`.
+pub fn find_entry(s: &[u8], at: usize, command: &[u8]) -> Position
+    requires { ⌜ ItemAt (now s) at ⌝ }
+    ensures { λ r. ⌜ ((front back : Row) (it : Item) → Stands (now (s .entry)) at front back it → r ≡ entryOf at (now (command .entry)) it) ⌝ }
+{
+    let end = at + item_len(s, at);
+    let mut e = at + 32 + buffer::read_u32(s, at) as usize;
+    while e < end {
+        if has_command(s, e, command) {
+            return Position::At(e);
+        }
+        e = e + entry_len(s, e);
+    }
+    Position::Absent
+}
+
+// What an item has for a lookup.
+enum Reading {
+    // It is under another epoch, or past its expiry.
+    Stale,
+    // It has no value for the command key.
+    Bare,
+    // The value: `len` bytes, `skip` bytes behind the item's first.
+    Value { skip: usize, len: usize },
+}
+
+// What the item at `at` has for a lookup.
+fn read_item(s: &[u8], at: usize, command: &[u8], clock: u64, epoch: u64) -> Reading
+    requires { ⌜ ItemAt (now s) at ⌝ }
+    ensures { λ r. ⌜ ((front back : Row) (it : Item) → Stands (now (s .entry)) at front back it → Reads clock epoch (now (command .entry)) it r) ⌝ }
+{
+    if epoch != epoch_of(s, at) {
+        return Reading::Stale;
+    }
+    if expiry_of(s, at) < clock {
+        return Reading::Stale;
+    }
+    match find_entry(s, at, command) {
+        Position::At(e) => {
+            let skip = e - at + 16 + buffer::read_u32(s, e) as usize;
+            let len = buffer::read_u32(s, e + 4) as usize;
+            Reading::Value { skip, len }
+        }
+        Position::Absent => Reading::Bare,
+    }
+}
+
+// What a lookup answers.
+pub enum Looked {
+    // The value: the shard's bytes from `from` up to `to`.
+    Hit { from: usize, to: usize },
+    // No value; with the number of entries that are dropped.
+    Miss(usize),
+}
+
+// What `lookup_in` would answer; nothing changes, and a hit's bytes are those of the shard as it is.
+pub fn peek_in(s: &[u8], key: &[u8], command: &[u8], clock: u64, epoch: u64) -> Looked
+    requires { ⌜ Shard (now s) ⌝ }
+    ensures { λ r. ⌜ ((row : Row) → Holds (now (s .entry)) row → Told (now (s .entry)) (lookupOn (now (key .entry)) (now (command .entry)) clock epoch row) r) ⌝ }
+{
+    let Position::At(at) = find(s, key) else {
+        return Looked::Miss(0);
+    };
+    match read_item(s, at, command, clock, epoch) {
+        Reading::Stale => Looked::Miss(entry_count(s, at)),
+        Reading::Bare => Looked::Miss(0),
+        Reading::Value { skip, len } => Looked::Hit {
+            from: at + skip,
+            to: at + skip + len,
+        },
+    }
+}
+
+// Looks the command key's value up under the key: an item that is not current is dropped, another becomes the newest.
+pub fn lookup_in(s: &mut [u8], key: &[u8], command: &[u8], clock: u64, epoch: u64) -> Looked
+    requires { ⌜ Shard (now s) ⌝ }
+    ensures { λ r. ⌜ ((row : Row) → Holds (now (s .entry)) row → (now (s .exit) ≡ encShard (length (now (s .entry))) (lookupOn (now (key .entry)) (now (command .entry)) clock epoch row .row)) × Told (now (s .exit)) (lookupOn (now (key .entry)) (now (command .entry)) clock epoch row) r) ⌝ }
+{
+    let Position::At(at) = find(s, key) else {
+        return Looked::Miss(0);
+    };
+    match read_item(s, at, command, clock, epoch) {
+        Reading::Stale => {
+            let n = entry_count(s, at);
+            remove(s, at);
+            Looked::Miss(n)
+        }
+        Reading::Bare => {
+            touch(s, at);
+            Looked::Miss(0)
+        }
+        Reading::Value { skip, len } => {
+            touch(s, at);
+            Looked::Hit {
+                from: 16 + skip,
+                to: 16 + skip + len,
+            }
+        }
+    }
+}
