@@ -1,5 +1,5 @@
 // Writes the vectors that siphash_vectors is held to, with the hasher of Rust's standard library. To make them again, in this folder:
-//     rustc -O vectors.rs -o /tmp/vectors && /tmp/vectors > stdout
+//     rustc -O vectors.rs -o ../../target/vectors && ../../target/vectors > stdout
 use std::collections::hash_map::DefaultHasher;
 use std::hash::Hasher;
 
