@@ -1,0 +1,3 @@
+pub mod Setup
+pub mod Laws
+pub mod Cases
