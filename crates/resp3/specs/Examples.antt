@@ -1,4 +1,4 @@
--- The RESP3 specification's own examples: each value, and the bytes that the specification gives for it. Assumes nothing.
+-- One example of each kind of RESP3, after the specification, whose text was not at hand to compare them with. Assumes nothing.
 use mathlib.Core.Path.{_≡_, refl}
 use mathlib.Core.Bool.{true, false}
 use lib.IntN.{pos}
