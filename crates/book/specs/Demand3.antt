@@ -13,13 +13,13 @@ use mathlib.Core.Bool.{Bool, true, false, cond}
 use mathlib.Core.Option.{Option, none, some, Option·none-ne-some, Option·some-injective}
 use mathlib.Core.List.{List, [], _∷_, _++_}
 use lib.ListN.{length}
+use borrow.Author.Tests.{le-leb, lt-leb}
 use Rattle.buffer.specs.Cases.{byTest}
 use Rattle.buffer.specs.Same.{Bytes}
 use Rattle.config.specs.Wrap.{wrap}
 use Rattle.book.specs.Book.{Row, Setup, Book, Counts, Answer, hit, miss, stored, noSpace, number, Keyed, lookup, store, Event, on, fresh, find, storedRow, rowBytes, fits, ifFits, keyOf, effectOn, effect, put, after, answerTo, afterAll, answers}
 use Rattle.book.specs.Calls.{Storing, Call, planning, resolving, resolving7, push, pushAll, single, takeEpoch, refused, lookups, stores, invalidations, ons, eventsOf, isRefused, afterCall, replyTo, refusals, afterCalls, replies, run, onto, traced, shardsOf, NoneCommon, call-defs}
 use Rattle.book.specs.Residence.{ServedBy}
-use Rattle.book.specs.Tests.{yes-leb, no-leb}
 use Rattle.book.specs.Trace.{Proper, SoundBook, sound, none-beyond, run-onto, run-traced}
 use Rattle.book.specs.Counts.{Counted}
 use Rattle.book.specs.Tally.{hitsIn, missesIn, tallyAll, hits-tallied, misses-tallied}
@@ -238,8 +238,8 @@ demand-three p o lent cs =
           ∙ ap some
           (lookup-miss p (l .key) (l .command) (l .clock) (l .epoch) (run p (fresh lent) (past p lent l))
           (λ v q. none-serves v (served-by p (o .some-key) lent (l .key) (past p lent l) (l .command) v (l .clock) (l .epoch) .0 q)));
-      singleStored = λ before later k c v x e q fit. single-reply before k c v x e true (unfold fits in yes-leb _ _ fit);
-      singleRefused = λ before later k c v x e q over. single-reply before k c v x e false (unfold fits in no-leb _ _ over);
+      singleStored = λ before later k c v x e q fit. single-reply before k c v x e true (unfold fits in le-leb _ _ fit);
+      singleRefused = λ before later k c v x e q over. single-reply before k c v x e false (unfold fits in lt-leb _ _ over);
       epochs = λ before later q. epoch-reply before;
       reported = λ before later e ws q. (answers p (ons (stores e ws)) (bookOf p lent before), unfold call-defs in refl, lacking-is p e ws (bookOf p lent before));
       left = book-is;

@@ -9,12 +9,12 @@ use mathlib.Core.Option.{Option, some}
 use mathlib.Core.List.{List, [], _∷_, _++_}
 use lib.ListN.{length}
 use lib.Dec.{eqb}
-use Rattle.buffer.specs.Cases.{byTest, eqb-yes}
+use borrow.Author.Tests.{eqb-true, ne-eqb}
+use Rattle.buffer.specs.Cases.{byTest}
 use Rattle.buffer.specs.Same.{Bytes}
 use Rattle.config.specs.Wrap.{wrap}
 use Rattle.book.specs.Book.{Row, Setup, Book, Counts, Effect, Answer, Keyed, keyOf, on, count, setRow, put, effect, after, answerTo, afterAll, answers}
 use Rattle.book.specs.Calls.{Call, push, pushAll, single, refused, invalidations, ons, afterCall, replyTo, afterCalls, replies, homes, these, shardsOf, NotAmong, Apart, NoneCommon, call-defs}
-use Rattle.book.specs.Tests.{no-eqb}
 use Rattle.book.specs.Trace.{row-elsewhere}
 
 -- ---- two events in different shards
@@ -43,7 +43,7 @@ row-swap s t a b rows n = fun-ext at
     at : (i : ℕ) → setRow s a (setRow t b rows) i ≡ setRow t b (setRow s a rows) i
     at i =
         byTest (eqb i s)
-        (λ e. byTest (eqb i t) (λ h. absurd (n (sym (eqb-yes i s e) ∙ eqb-yes i t h))) (λ h. rw (e, h)))
+        (λ e. byTest (eqb i t) (λ h. absurd (n (sym (eqb-true i s e) ∙ eqb-true i t h))) (λ h. rw (e, h)))
         (λ e. byTest (eqb i t) (λ h. rw (e, h)) (λ h. rw (e, h)))
 
 -- effects on different shards may be put in either order
@@ -68,7 +68,7 @@ off-sym p a b d q = d (sym q)
 -- an event does not see what another did in another shard
 unseen : (p : Setup) (a b : Keyed) (bk : Book) → Off p a b → effect p a (after p (on b) bk) ≡ effect p a bk
 unfolding effect after put
-unseen p a b bk d = let n = no-eqb (p .shardOf (keyOf a)) (p .shardOf (keyOf b)) d in rw row-elsewhere
+unseen p a b bk d = let n = ne-eqb (p .shardOf (keyOf a)) (p .shardOf (keyOf b)) d in rw row-elsewhere
 
 -- so its answer is the same
 answer-swap : (p : Setup) (a b : Keyed) (bk : Book) → Off p a b → answerTo p (on a) (after p (on b) bk) ≡ answerTo p (on a) bk

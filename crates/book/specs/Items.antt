@@ -6,7 +6,8 @@ use mathlib.Core.Option.{Option, none, some}
 use mathlib.Core.List.{_∷_}
 use lib.ListN.{length}
 use lib.Dec.{eqb, leb}
-use Rattle.buffer.specs.Cases.{byTest, eqb-yes}
+use borrow.Author.Tests.{eqb-true}
+use Rattle.buffer.specs.Cases.{byTest}
 use Rattle.buffer.specs.Same.{Bytes, same, same-refl, same-eq}
 use Rattle.book.specs.Book.{Item, Row, Setup, Book, Keyed, lookup, store, invalidate, Event, on, invalidateAll, newEpoch, find, without, valueFor, current, serve, lookupItem, newItem, updated, roomForOne, storedRow, fits, ifFits, keyOf, effectOn, put, effect, after}
 use Rattle.book.specs.Rows.{other, same-comm, find-without, find-without-other, found-key, find-replace, find-replace-other, isOldest, Distinct, find-withoutOldest}
@@ -138,7 +139,7 @@ unfolding itemOf after put effect turned
 item-after p k (on q) bk w =
     byTest (eqb (p .shardOf k) (p .shardOf (keyOf q)))
     (λ l.
-    rw (l, ← (eqb-yes (p .shardOf k) (p .shardOf (keyOf q)) l), row-here)
+    rw (l, ← (eqb-true (p .shardOf k) (p .shardOf (keyOf q)) l), row-here)
     (turned-in p k q (bk .rows (p .shardOf k)) (w (p .shardOf k) .keys)))
     (λ l. rw (l, row-elsewhere))
 item-after p k invalidateAll bk w = unfold find in refl

@@ -4,7 +4,6 @@ pub mod Residence
 pub mod Cases
 pub mod CallCases
 pub mod ResidenceCases
-pub mod Tests
 pub mod Rows
 pub mod Each
 pub mod Sound

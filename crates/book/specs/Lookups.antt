@@ -8,11 +8,11 @@ use mathlib.Core.List.{List, [], _∷_}
 use mathlib.Core.Logic.{_↔_}
 use native.Mathlib.Omega.{arith}
 use lib.Dec.{eqb}
-use Rattle.buffer.specs.Cases.{byTest, eqb-yes, eqb-same}
+use borrow.Author.Tests.{eqb-true, leb-true, le-leb}
+use Rattle.buffer.specs.Cases.{byTest, eqb-same}
 use Rattle.buffer.specs.Same.{Bytes, same}
 use Rattle.book.specs.Book.{Item, Row, Setup, Book, Answer, hit, miss, lookup, on, find, without, valueFor, current, serve, lookupItem, keyOf, effectOn, effect, put, after, answerTo, answers}
 use Rattle.book.specs.Calls.{Wanted, planning, lookups, ons, happening, replyTo, call-defs}
-use Rattle.book.specs.Tests.{leb-yes, yes-leb}
 use Rattle.book.specs.Trace.{row-here, row-elsewhere}
 use Rattle.book.specs.Residence.{itemOf}
 use Rattle.book.specs.Items.{ifCurrent, lookup-in}
@@ -69,13 +69,13 @@ served-some (some u) v q = cc
 current-yes : (t e : ℕ) (it : Item) → current t e it ≡ true → (it .epoch ≡ e) × (t ≤ it .expiry)
 unfolding current
 current-yes t e it l =
-    byTest (eqb e (it .epoch)) (λ q. (sym (eqb-yes e (it .epoch) q), leb-yes t (it .expiry) (rw q at l)))
+    byTest (eqb e (it .epoch)) (λ q. (sym (eqb-true e (it .epoch) q), leb-true t (it .expiry) (rw q at l)))
     (λ q. absurd (false≢true (rw q at l)))
 
 -- and such an item is current
 yes-current : (t e : ℕ) (it : Item) → it .epoch ≡ e → t ≤ it .expiry → current t e it ≡ true
 unfolding current
-yes-current t e it q h = rw (q, eqb-same e) (yes-leb t (it .expiry) h)
+yes-current t e it q h = rw (q, eqb-same e) (le-leb t (it .expiry) h)
 
 -- a lookup is served v exactly if the key's item serves v
 pub serving : (o : Option Item) (c : Bytes) (t e : ℕ) (v : Bytes) → (answerFrom o c t e ≡ hit v) ↔ Serving o c t e v
@@ -127,7 +127,7 @@ item-lookup : (p : Setup) (j k c : Bytes) (t e : ℕ) (bk : Book)
 unfolding itemOf after put effect effectOn keyOf
 item-lookup p j k c t e bk =
     byTest (eqb (p .shardOf j) (p .shardOf k))
-    (λ l. rw (← (eqb-yes (p .shardOf j) (p .shardOf k) l), row-here) (lookup-in j k c t e (bk .rows (p .shardOf j))))
+    (λ l. rw (← (eqb-true (p .shardOf j) (p .shardOf k) l), row-here) (lookup-in j k c t e (bk .rows (p .shardOf j))))
     (λ l. rw (row-elsewhere, apart-keys p j k l))
 
 -- so no other lookup's answer changes

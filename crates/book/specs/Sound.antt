@@ -8,11 +8,11 @@ use mathlib.Core.Option.{Option, none, some}
 use mathlib.Core.List.{List, [], _∷_, _++_}
 use lib.ListN.{length}
 use lib.Dec.{eqb, leb}
+use borrow.Author.Tests.{leb-true, leb-false}
 use Rattle.buffer.specs.Cases.{byTest}
 use Rattle.buffer.specs.Same.{Bytes, same, same-eq}
 use Rattle.book.specs.Book.{Entry, Item, Row, Setup, Keyed, lookup, store, invalidate, find, without, replace, withoutOldest, valueFor, setValue, rowBytes, current, serve, lookupItem, newItem, updated, roomForOne, storedRow, fits, ifFits, keyOf, effectOn}
 use Rattle.book.specs.Rows.{not-absent, find-without, find-without-other, without-absent, found-key, find-replace-other, value-set-other, Distinct, Place, place, isOldest, find-withoutOldest}
-use Rattle.book.specs.Tests.{leb-yes, leb-no}
 use Rattle.book.specs.Each.{Each, Brings, each-effectOn}
 
 -- ---- the invariant
@@ -210,7 +210,7 @@ fewer-room p new (it ∷ row) n w f =
     (λ l.
     rw l
     ((none-withoutOldest (new .key) (it ∷ row) (w .0) f, distinct-withoutOldest (it ∷ row) (w .0)), rw len-withoutOldest (w .1)))
-    (λ l. rw l ((f, w .0), leb-no (p .keys) (length (it ∷ row)) l))
+    (λ l. rw l ((f, w .0), leb-false (p .keys) (length (it ∷ row)) l))
 
 -- so it is after every store, the bytes aside
 fewer-store : (p : Setup) (k c v : Bytes) (x e : ℕ) (row : Row) → 1 ≤ p .keys → Fewer p row
@@ -227,7 +227,7 @@ fewer-store p k c v x e row n w (some it) f =
 -- and a store is kept only if it fits
 lighter-store : (p : Setup) (new old : Row) → Fewer p new → Lighter p old → (b : Bool) → fits (p .bytes) new ≡ b → Lighter p (ifFits b new old .row)
 unfolding ifFits fits
-lighter-store p new old n w true f = (n, leb-yes (rowBytes new) (p .bytes - 16) f)
+lighter-store p new old n w true f = (n, leb-true (rowBytes new) (p .bytes - 16) f)
 lighter-store p new old n w false f = w
 
 -- so it is after every event with a key

@@ -4,10 +4,10 @@ use Prim.Native.Nat.{ℕ}
 use mathlib.Core.Bool.{true, false, true≢false, false≢true, not}
 use mathlib.Core.Option.{Option, none, some, Option·none-ne-some, Option·some-injective}
 use lib.Dec.{eqb}
-use Rattle.buffer.specs.Cases.{byTest, eqb-yes, eqb-same}
+use borrow.Author.Tests.{eqb-false, ne-eqb, eqb-true}
+use Rattle.buffer.specs.Cases.{byTest, eqb-same}
 use Rattle.buffer.specs.Same.{Bytes, same, same-refl, same-eq}
 use Rattle.book.specs.Book.{Item, Setup, Book, Keyed, lookup, store, invalidate, Event, on, invalidateAll, newEpoch, current, newItem, updated, keyOf, effectOn, effect, after, answerTo}
-use Rattle.book.specs.Tests.{eqb-sym}
 use Rattle.book.specs.Trace.{SoundBook}
 use Rattle.book.specs.Residence.{itemOf, hasUnder, leaves, ends, KeptStore, isStored, keptBy, opening}
 use Rattle.book.specs.Items.{storedItem, evicts, turned, turned-defs, item-after}
@@ -28,7 +28,7 @@ pub answer-here : (p : Setup) (k j c v : Bytes) (x e : ℕ) (bk : Book) → eqb 
     → answerTo p (on (store j c v x e)) bk ≡ effectOn p (store j c v x e) (bk .rows (p .shardOf k)) .answer
 unfolding answerTo effect keyOf
 answer-here p k j c v x e bk l =
-    ap (λ (z : ℕ). effectOn p (store j c v x e) (bk .rows z) .answer) (sym (eqb-yes (p .shardOf k) (p .shardOf j) l))
+    ap (λ (z : ℕ). effectOn p (store j c v x e) (bk .rows z) .answer) (sym (eqb-true (p .shardOf k) (p .shardOf j) l))
 
 -- ---- the kinds of events
 
@@ -169,7 +169,7 @@ pub opening-ends : (p : Setup) (k : Bytes) (e : ℕ) (w : KeptStore) (bk : Book)
     → isStored (answerTo p (opening k e w) bk) ≡ true → hasUnder e (itemOf p k bk) ≡ false → ends p k (opening k e w) bk ≡ true
 unfolding ends leaves hasUnder
 opening-ends p k e w bk it s f a u =
-    rw (opening-brings p k e w bk s a u, f) (ap not (eqb-sym e (it .epoch) (rw f at u)))
+    rw (opening-brings p k e w bk s a u, f) (ap not (ne-eqb (it .epoch) e (λ q. eqb-false e (it .epoch) (rw f at u) (sym q))))
 
 -- an event that does not end the stay adds its kept store, if it is one, and changes nothing else
 pub stay-grows : (p : Setup) (k : Bytes) (ev : Event) (bk : Book) (it : Item) → SoundBook p bk → itemOf p k bk ≡ some it → ends p k ev bk ≡ false

@@ -6,7 +6,8 @@ use native.Mathlib.Omega.{arith}
 use mathlib.Core.Bool.{false}
 use mathlib.Core.List.{List, [], _∷_}
 use lib.Dec.{eqb}
-use Rattle.buffer.specs.Cases.{byTest, eqb-yes, eqb-same}
+use borrow.Author.Tests.{eqb-true}
+use Rattle.buffer.specs.Cases.{byTest, eqb-same}
 use Rattle.buffer.specs.Same.{Bytes}
 use Rattle.book.specs.Book.{Row, Setup, Book, Counts, keyOf, effectOn, Event, on, invalidateAll, newEpoch, fresh, setRow, put, effect, after, afterAll}
 use Rattle.book.specs.Calls.{Call, happening, afterCall, afterCalls, run, onto, traced}
@@ -48,7 +49,7 @@ module _ (p : Setup) (R : ℕ → Row → Type 0) (empty : (s : ℕ) → R s [])
       let home : ℕ = p .shardOf (keyOf q) in
       byTest (eqb s home)
       (λ e.
-      subst (λ (z : ℕ). R z (setRow home (effectOn p q (bk .rows home) .row) (bk .rows) z)) (sym (eqb-yes s home e))
+      subst (λ (z : ℕ). R z (setRow home (effectOn p q (bk .rows home) .row) (bk .rows) z)) (sym (eqb-true s home e))
       (rw row-here (g (bk .rows home) (w home))))
       (λ e. rw row-elsewhere (w s))
   kept-after invalidateAll bk g w s = empty s

@@ -7,10 +7,10 @@ use mathlib.Core.Option.{Option, none, some, Option·none-ne-some}
 use mathlib.Core.List.{List}
 use lib.ListN.{length}
 use lib.Dec.{eqb, leb}
-use Rattle.buffer.specs.Cases.{byTest, eqb-yes, eqb-same}
+use borrow.Author.Tests.{eqb-true, leb-true, leb-false, le-leb, lt-leb, eqb-false, ne-eqb}
+use Rattle.buffer.specs.Cases.{byTest, eqb-same}
 use Rattle.buffer.specs.Same.{Bytes, same, same-refl, same-eq}
 use Rattle.book.specs.Book.{Item, Row, Setup, Book, Counts, fresh, Answer, hit, miss, stored, noSpace, invalidated, number, lookup, store, invalidate, Event, on, invalidateAll, newEpoch, find, current, updated, effectOn, effect, answerTo}
-use Rattle.book.specs.Tests.{leb-yes, leb-no, yes-leb, no-leb, eqb-no, no-eqb}
 use Rattle.book.specs.Rows.{isOldest}
 use Rattle.book.specs.Calls.{run}
 use Rattle.book.specs.Trace.{SoundBook, sound}
@@ -72,8 +72,8 @@ module _ (p : Setup) (k : Bytes) (bk : Book) (it : Item) (s : SoundBook p bk) (f
   not-current : (c : Bytes) (t e : ℕ) → current t e it ≡ false → Way p k bk (it .epoch) (it .expiry) (on (lookup k c t e))
   unfolding current
   not-current c t e u =
-      byTest (eqb e (it .epoch)) (λ l. expired c t e (leb-no t (it .expiry) (rw l at u)))
-      (λ l. otherEpoch c t e (eqb-no e (it .epoch) l))
+      byTest (eqb e (it .epoch)) (λ l. expired c t e (leb-false t (it .expiry) (rw l at u)))
+      (λ l. otherEpoch c t e (eqb-false e (it .epoch) l))
 
   -- a lookup that finds the item not current ends its stay
   lookup-ends : (c : Bytes) (t e : ℕ) → current t e it ≡ false → ends p k (on (lookup k c t e)) bk ≡ true
@@ -97,7 +97,7 @@ module _ (p : Setup) (k : Bytes) (bk : Book) (it : Item) (s : SoundBook p bk) (f
   own-way : (c v : Bytes) (x e : ℕ) → OwnWay c v x e k
   own-way c v x e a d =
       byTest (eqb e (it .epoch)) (λ q. absurd (true≢false (sym d ∙ update-lasts c v x e a q)))
-      (λ q. replaced c v x e a (eqb-no e (it .epoch) q))
+      (λ q. replaced c v x e a (eqb-false e (it .epoch) q))
 
   -- a key that is absent is another one
   other-key : (j : Bytes) → itemOf p j bk ≡ none → same j k ≡ false
@@ -116,16 +116,16 @@ module _ (p : Setup) (k : Bytes) (bk : Book) (it : Item) (s : SoundBook p bk) (f
       let taken : isStored (effectOn p (store j c v x e) (bk .rows (p .shardOf k)) .answer) ≡ true
       = yes-stored _ (sym (answer-here p k j c v x e bk here) ∙ a) in
       let gone : find j (bk .rows (p .shardOf k)) ≡ none = ap (λ (z : ℕ). find j (bk .rows z)) h ∙ n in
-      ended (on (store j c v x e)) (rw (here, taken, other-key j n, gone) (rw (yes-leb _ _ l, o)))
+      ended (on (store j c v x e)) (rw (here, taken, other-key j n, gone) (rw (le-leb _ _ l, o)))
 
   -- each way ends the stay
   way-ends : {ev : Event} → Way p k bk (it .epoch) (it .expiry) ev → ends p k ev bk ≡ true
   unfolding turned-defs current hasUnder
-  way-ends (otherEpoch c t e d) = lookup-ends c t e (rw (no-eqb e (it .epoch) d))
+  way-ends (otherEpoch c t e d) = lookup-ends c t e (rw (ne-eqb e (it .epoch) d))
   way-ends (expired c t e l) =
-      lookup-ends c t e (byTest (eqb e (it .epoch)) (λ q. rw q (no-leb t (it .expiry) l)) (λ q. rw q))
+      lookup-ends c t e (byTest (eqb e (it .epoch)) (λ q. rw q (lt-leb t (it .expiry) l)) (λ q. rw q))
   way-ends (replaced c v x e a d) =
-      opening-ends p k e (record { command = c; value = v; expiry = x }) bk it s f (yes-stored _ a) (rw f (no-eqb e (it .epoch) d))
+      opening-ends p k e (record { command = c; value = v; expiry = x }) bk it s f (yes-stored _ a) (rw f (ne-eqb e (it .epoch) d))
   way-ends (evicted j c v x e a h n l o) = evicted-ends j c v x e a h n l o
   way-ends invalidatedKey = ended (on (invalidate k)) (rw (eqb-same (p .shardOf k), same-refl k))
   way-ends invalidatedAll = ended invalidateAll refl
@@ -172,14 +172,14 @@ module _ (p : Setup) (k : Bytes) (bk : Book) (it : Item) (s : SoundBook p bk) (f
           → same j k ≡ false → answerTo p (on (store j c v x e)) bk ≡ stored → Way p k bk (it .epoch) (it .expiry) (on (store j c v x e))
       others l a g taken =
           let row : Row = bk .rows (p .shardOf k) in
-          let h : p .shardOf k ≡ p .shardOf j = eqb-yes (p .shardOf k) (p .shardOf j) l in
+          let h : p .shardOf k ≡ p .shardOf j = eqb-true (p .shardOf k) (p .shardOf j) l in
           byTest (absent (find j row))
           (λ n.
           byTest (leb (p .keys) (length row))
           (λ m.
           byTest (isOldest k row)
           (λ o.
-          evicted j c v x e taken h (ap (λ (z : ℕ). find j (bk .rows z)) (sym h) ∙ absent-none _ n) (leb-yes (p .keys) (length row) m) o)
+          evicted j c v x e taken h (ap (λ (z : ℕ). find j (bk .rows z)) (sym h) ∙ absent-none _ n) (leb-true (p .keys) (length row) m) o)
           (λ o. absurd (not-ended (on (store j c v x e)) (rw (l, a, g, n, m, o)) d)))
           (λ m. absurd (not-ended (on (store j c v x e)) (rw (l, a, g, n, m)) d)))
           (λ n. absurd (not-ended (on (store j c v x e)) (rw (l, a, g, n)) d))

@@ -7,3 +7,6 @@ pub mod Same
 pub mod Ascii
 pub mod Step
 pub mod Zero
+pub mod Copied
+pub mod Lies
+pub mod Places

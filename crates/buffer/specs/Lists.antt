@@ -1,6 +1,6 @@
 -- Laws of lists that the kit's library lacks: parts of parts, lists that agree, zeros and other repeats. For every element type.
 -- Assumes nothing.
-use mathlib.Core.Path.{_≡_, refl, ap, _∙_, sym}
+use mathlib.Core.Path.{_≡_, ap, _∙_, sym}
 use mathlib.Core.List.{List, [], _∷_, _++_}
 use Prim.Native.Nat.{ℕ, zero, suc, _+_, _-_, _≤_}
 use native.Mathlib.Omega.{arith}
@@ -20,13 +20,6 @@ module _ {ℓ} {A : Type ℓ} where
   getD-agree a b m j d e h =
       let i : m + (j - m) ≡ j = omega arith in
       cc (getD-drop m a (j - m) d, getD-drop m b (j - m) d)
-
-  -- a list is split into two at one place only
-  pub split-one : (a b c d : List A) → a ++ b ≡ c ++ d → length a ≡ length c → (a ≡ c) × (b ≡ d)
-  split-one a b c d e l = (
-    cc (take-at a b (length a) refl, take-at c d (length a) (sym l)),
-    cc (drop-at a b (length a) refl, drop-at c d (length a) (sym l)),
-  )
 
   -- a front that reaches into the second of two lists
   pub take-past : (X Y : List A) (at k : ℕ) → length X ≡ at → take (at + k) (X ++ Y) ≡ X ++ take k Y

@@ -43,20 +43,6 @@ pub resized-none : (s : Bytes) (from to end : ℕ) → resized s from to end 0 �
 unfolding resized spliced
 resized-none s from to end = let e : from + 0 ≡ from = omega arith in rw e
 
--- a range replaced, with what stands before and after it
-pub spliced-is : (s bs : Bytes) (from to end : ℕ) → to ≤ end → end ≤ length s
-    → spliced s from to end bs
-    ≡ take from s ++ (bs ++ (part s to (end - to) ++ (replicate (to - from - length bs) 0 ++ drop (from + length bs + (end - to) + (to - from - length bs)) s)))
-unfolding spliced put
-spliced-is s bs from to end a h =
-    let P : Bytes = part s to (end - to) in
-    let Z : Bytes = replicate (to - from - length bs) 0 in
-    let p : length P ≡ end - to = length-part s to (end - to) (omega arith) in
-    let l : from + length (bs ++ (P ++ Z)) ≡ from + length bs + (end - to) + (to - from - length bs) =
-    simp (length-append, length-replicate, p) (omega arith) in
-    let D : Bytes = drop (from + length bs + (end - to) + (to - from - length bs)) s in
-    cc (append-assoc bs (P ++ Z) D, append-assoc P Z D)
-
 -- in a list given in its pieces, the middle one is replaced
 pub spliced-at : (X M T Z bs : Bytes) (from to end : ℕ) → length X ≡ from → from + length M ≡ to → to + length T ≡ end
     → spliced (X ++ (M ++ (T ++ Z))) from to end bs ≡ X ++ (bs ++ (T ++ (replicate (length M - length bs) 0 ++ drop (length bs - length M) Z)))

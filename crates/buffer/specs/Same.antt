@@ -6,7 +6,8 @@ use mathlib.Core.List.{List, [], _∷_, _++_}
 use native.Mathlib.Omega.{arith}
 use lib.ListN.{length}
 use lib.Dec.{eqb}
-use Rattle.buffer.specs.Cases.{byTest, eqb-yes, eqb-same}
+use borrow.Author.Tests.{eqb-true}
+use Rattle.buffer.specs.Cases.{byTest, eqb-same}
 
 -- a byte string; each of its numbers is below 256 where it is read from a slice
 abbrev pub Bytes : Type 0
@@ -33,7 +34,7 @@ same-eq [] (y ∷ ys) e = absurd (false≢true e)
 same-eq (x ∷ xs) [] e = absurd (false≢true e)
 same-eq (x ∷ xs) (y ∷ ys) e =
     byTest (eqb x y)
-    (λ p. ap₂ _∷_ (eqb-yes x y p) (same-eq xs ys (rw p at e)))
+    (λ p. ap₂ _∷_ (eqb-true x y p) (same-eq xs ys (rw p at e)))
     (λ p. absurd (false≢true (rw p at e)))
 
 -- byte strings in two pieces each, the first ones as long, are the same where their pieces are

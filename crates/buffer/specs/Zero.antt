@@ -5,7 +5,8 @@ use mathlib.Core.Bool.{Bool, true, false, cond, false≢true}
 use mathlib.Core.List.{[], _∷_, _++_}
 use lib.ListN.{length, replicate}
 use lib.Dec.{eqb}
-use Rattle.buffer.specs.Cases.{byTest, eqb-yes, eqb-same}
+use borrow.Author.Tests.{eqb-true}
+use Rattle.buffer.specs.Cases.{byTest, eqb-same}
 use Rattle.buffer.specs.Same.{Bytes}
 use Rattle.buffer.specs.Part.{put}
 
@@ -30,7 +31,7 @@ unfolding allZero
 passed-zeros [] e = refl
 passed-zeros (x ∷ xs) e =
     byTest (eqb x 0)
-    (λ p. ap₂ _∷_ (eqb-yes x 0 p) (passed-zeros xs (rw p at e)))
+    (λ p. ap₂ _∷_ (eqb-true x 0 p) (passed-zeros xs (rw p at e)))
     (λ p. absurd (false≢true (rw p at e)))
 
 -- a byte string passes where its two pieces do

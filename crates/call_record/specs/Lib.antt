@@ -3,3 +3,4 @@ pub mod Offset
 pub mod Formats
 pub mod Check
 pub mod Paths
+pub mod CommandPaths

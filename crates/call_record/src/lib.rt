@@ -8,7 +8,8 @@ ghost use Rattle.format.specs.Skips.{skipEnd};
 ghost use Rattle.format.specs.Places.{numberEnd, wordEnd};
 ghost use Rattle.call_record.specs.Formats.{flagsB, textMax};
 ghost use Rattle.call_record.specs.Check.{checkDef};
-ghost use Rattle.call_record.specs.Paths.{textEnd, argumentEnd, argumentsEnd, ttlEnd, restEnd, commandEnd, commandsEnd, tailEnd, recordEnd};
+ghost use Rattle.call_record.specs.Paths.{textEnd, argumentEnd, argumentsEnd};
+ghost use Rattle.call_record.specs.CommandPaths.{ttlEnd, restEnd, commandEnd, commandsEnd, tailEnd, recordEnd};
 
 // Whether bytes are a call record; if not, the first offset at which they are none.
 pub enum Checked {

@@ -14,7 +14,7 @@ use Rattle.buffer.specs.Part.{part, length-part}
 use Rattle.cursor.specs.At.{sizeAt, nextAt, argsAt, ArgIn, ArgsIn}
 use Rattle.cursor.specs.Steps.{in-more, args-none, args-more}
 use Rattle.cursor.specs.Index.{own-is}
-use Rattle.command_key.specs.Copied.{Copied, copied-room}
+use Rattle.buffer.specs.Copied.{Copied, copied-room}
 use Rattle.command_key.specs.Key.{joined}
 
 -- ---- one more argument

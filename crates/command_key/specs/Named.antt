@@ -10,7 +10,7 @@ use Rattle.buffer.specs.Part.{part, part-all, part-add, put, length-part}
 use Rattle.cursor.specs.At.{rangeBytes, RangeIn}
 use Rattle.cursor.specs.declared.Range.{Range}
 use Rattle.command_key.specs.Key.{nameBytes}
-use Rattle.command_key.specs.Copied.{copied-start, copied-next, copied-done}
+use Rattle.buffer.specs.Copied.{copied-start, copied-next, copied-done}
 use Rattle.command_key.specs.Keys.{range-length, cutOf, range-cut, cut-length}
 
 -- a name is short

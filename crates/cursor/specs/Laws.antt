@@ -13,7 +13,7 @@ use Rattle.buffer.specs.Field.{le, le16, le32, le64, read16, read64, length-le}
 use Rattle.format.specs.Runs.{encAll, All}
 use Rattle.call_record.specs.Record.{Argument, simple, cursor, Command, Record, encArgument, encCommand, encRecord, ValidArgument, ValidCommand, ValidRecord}
 use Rattle.call_record.specs.Offset.{IsRecord}
-use Rattle.cursor.specs.Lies.{Lies, lies-left, lies-right, lies-inside, lies-head, lies-part, lies-number}
+use Rattle.buffer.specs.Lies.{Lies, lies-left, lies-right, lies-inside, lies-head, lies-part, lies-number}
 use Rattle.cursor.specs.At.{sizeAt, nextAt, argAt, argsAt, argsEnd, ArgIn, ArgsIn, headAt, commandOf, commandNext, commandsAt, CommandsIn, recordAt}
 
 -- ---- an argument

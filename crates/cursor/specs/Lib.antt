@@ -1,4 +1,3 @@
-pub mod Lies
 pub mod At
 pub mod Laws
 pub mod Steps

@@ -1,6 +1,5 @@
 pub mod Digits
 pub mod DigitLaws
-pub mod Places
 pub mod Read
 pub mod ReadLaws
 pub mod NumLaw

@@ -8,7 +8,7 @@ use lib.Dec.{leb, eqb}
 use lib.ListN.{length, getD, drop, drop-of-length-le}
 use borrow.Author.Tests.{leb-true, eqb-true, eqb-false, le-leb, lt-leb, eq-eqb, ne-eqb}
 use Rattle.buffer.specs.Cases.{byTest}
-use Rattle.decimal.specs.Places.{getD-out, inside, step}
+use Rattle.buffer.specs.Places.{getD-out, inside, step}
 use Rattle.decimal.specs.Read.{both, digitB, crlfB, lead, valAcc, numIf, endedDef, finDef, numDef}
 use Rattle.decimal.specs.declared.Num.the-variants.{Val, Bad}
 

@@ -6,7 +6,7 @@ use lib.ListN.{length, getD}
 use borrow.Author.Tests.{eq-eqb, ne-eqb, le-leb, lt-leb}
 use Rattle.buffer.specs.Same.{Bytes}
 use Rattle.config.specs.Limits.{maxDepth}
-use Rattle.decimal.specs.Places.{getD-out}
+use Rattle.buffer.specs.Places.{getD-out}
 use Rattle.decimal.specs.Read.{numDef}
 use Rattle.decimal.specs.ReadLaws.{num-out}
 use Rattle.decimal.specs.declared.Num.{Num}

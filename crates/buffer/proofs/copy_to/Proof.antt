@@ -1,6 +1,6 @@
 -- `buffer::copy_to` meets its contract: what is lent is the slice from `at` on, and what comes back is put there. Assumes nothing.
 use native.Mathlib.Omega.{arith}
-use Rattle.buffer.proofs.Moves.{copy-law}
+use Rattle.buffer.proofs.Writes.{copy-law}
 use borrow.Author.Needs.{needs}
 use Rattle.buffer.proofs.copy_to.Statement.{statement}
 use Rattle.buffer.proofs.copy_to.Tie as tie

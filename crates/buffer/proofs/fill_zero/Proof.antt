@@ -5,7 +5,7 @@ use native.Mathlib.Omega.{arith}
 use lib.ListN.{length, replicate, length-set}
 use Rattle.buffer.specs.Part.{put}
 use Rattle.buffer.specs.Step.{put-nil}
-use Rattle.buffer.proofs.Moves.{fill-turn}
+use Rattle.buffer.proofs.Writes.{fill-turn}
 use Rattle.buffer.proofs.fill_zero.Statement.{statement}
 use Rattle.buffer.proofs.fill_zero.Tie as tie
 

@@ -3,7 +3,7 @@ use mathlib.Core.Path.{_≡_, refl, sym, _∙_}
 use Prim.Native.Nat.{ℕ, _-_, _≤_}
 use native.Mathlib.Omega.{arith}
 use lib.ListN.{length}
-use Rattle.call_record.specs.Paths as laws
+use Rattle.call_record.specs.CommandPaths as laws
 use borrow.Author.Needs.{needs}
 use Rattle.call_record.proofs.commands_end.Statement.{statement}
 use Rattle.call_record.proofs.commands_end.Tie as tie

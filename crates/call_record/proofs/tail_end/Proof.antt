@@ -2,7 +2,7 @@
 use mathlib.Core.Path.{sym, _∙_}
 use Prim.Native.Nat.{_-_}
 use native.Mathlib.Omega.{arith}
-use Rattle.call_record.specs.Paths as laws
+use Rattle.call_record.specs.CommandPaths as laws
 use Rattle.call_record.specs.Formats.{count-fits}
 use borrow.Author.Needs.{needs}
 use Rattle.call_record.proofs.tail_end.Statement.{statement}

@@ -4,7 +4,7 @@ use Prim.Native.Nat.{ℕ, _+_, _-_}
 use native.Mathlib.Omega.{arith}
 use Rattle.cursor.specs.At.{ArgsIn}
 use Rattle.cursor.specs.Steps.{in-more, in-first}
-use Rattle.command_key.specs.Copied as cop
+use Rattle.buffer.specs.Copied as cop
 use Rattle.command_key.specs.Joined as laws
 use Rattle.command_key.proofs.joined_copy.Statement.{statement}
 use Rattle.command_key.proofs.joined_copy.Tie as tie

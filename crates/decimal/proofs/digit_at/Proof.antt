@@ -1,6 +1,6 @@
 -- `decimal::digit_at` meets its contract: past the end a 0 is read, which is no digit. Assumes nothing.
 use borrow.Author.Tests.{le-leb, lt-leb}
-use Rattle.decimal.specs.Places.{getD-out}
+use Rattle.buffer.specs.Places.{getD-out}
 use borrow.Author.Needs.{needs}
 use Rattle.decimal.proofs.digit_at.Statement.{statement}
 use Rattle.decimal.proofs.digit_at.Tie as tie

@@ -2,7 +2,7 @@
 use mathlib.Core.Path.{sym}
 use borrow.Author.Needs.{needs}
 use native.Mathlib.Omega.{arith}
-use Rattle.decimal.specs.Places.{getD-out}
+use Rattle.buffer.specs.Places.{getD-out}
 use Rattle.resp3_element.proofs.first_byte.Statement.{statement}
 use Rattle.resp3_element.proofs.first_byte.Tie as tie
 

@@ -1,9 +1,9 @@
--- `buffer::turn` meets its contract: three reversals (`rotate-law`). Assumes nothing.
+-- `ranges::turn` meets its contract: three reversals (`rotate-law`). Assumes nothing.
 use native.Mathlib.Omega.{arith}
-use Rattle.buffer.proofs.Moves.{rotate-law}
+use Rattle.ranges.proofs.Moves.{rotate-law}
 use borrow.Author.Needs.{needs}
-use Rattle.buffer.proofs.turn.Statement.{statement}
-use Rattle.buffer.proofs.turn.Tie as tie
+use Rattle.ranges.proofs.turn.Statement.{statement}
+use Rattle.ranges.proofs.turn.Tie as tie
 
 reverse-requires : tie.Need-reverse-requires
 reverse-requires c κs = search needs

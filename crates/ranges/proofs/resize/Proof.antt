@@ -1,9 +1,9 @@
--- `buffer::resize` meets its contract: the tail is moved, and then what is freed is zeroed (`resize-law`). Assumes nothing.
+-- `ranges::resize` meets its contract: the tail is moved, and then what is freed is zeroed (`resize-law`). Assumes nothing.
 use native.Mathlib.Omega.{arith}
-use Rattle.buffer.proofs.Moves.{resize-law}
+use Rattle.ranges.proofs.Moves.{resize-law}
 use borrow.Author.Needs.{needs}
-use Rattle.buffer.proofs.resize.Statement.{statement}
-use Rattle.buffer.proofs.resize.Tie as tie
+use Rattle.ranges.proofs.resize.Statement.{statement}
+use Rattle.ranges.proofs.resize.Tie as tie
 
 add-next : tie.Need-add-next
 add-next c = search needs

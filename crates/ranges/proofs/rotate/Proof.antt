@@ -1,13 +1,13 @@
--- `buffer::rotate` meets its contract. The loop's invariant: rotating what is left gives what rotating the whole would have given. Assumes nothing.
+-- `ranges::rotate` meets its contract. The loop's invariant: rotating what is left gives what rotating the whole would have given. Assumes nothing.
 use mathlib.Core.Path.{_≡_, refl}
 use Prim.Native.Nat.{_+_, _-_, _≤_}
 use native.Mathlib.Omega.{arith}
 use lib.ListN.{length}
 use borrow.Author.Needs.{needs}
 use Rattle.buffer.specs.Move.{rotated}
-use Rattle.buffer.proofs.Exchanges.{first-placed, second-placed}
-use Rattle.buffer.proofs.rotate.Statement.{statement}
-use Rattle.buffer.proofs.rotate.Tie as tie
+use Rattle.ranges.proofs.Exchanges.{first-placed, second-placed}
+use Rattle.ranges.proofs.rotate.Statement.{statement}
+use Rattle.ranges.proofs.rotate.Tie as tie
 
 abbrev Inv-loop : tie.InvT-loop
 Inv-loop s₀ from mid end f₀ e₀ s f e = (f ≤ mid) × (mid ≤ e) × (e ≤ length s) × (length s ≡ length s₀) × (rotated s f mid e ≡ rotated s₀ from mid end)

@@ -1,9 +1,9 @@
--- `buffer::splice` meets its contract: room is made, and then filled (`resized-put`). Assumes nothing.
+-- `ranges::splice` meets its contract: room is made, and then filled (`resized-put`). Assumes nothing.
 use native.Mathlib.Omega.{arith}
 use Rattle.buffer.specs.Move.{resized-put}
 use borrow.Author.Needs.{needs}
-use Rattle.buffer.proofs.splice.Statement.{statement}
-use Rattle.buffer.proofs.splice.Tie as tie
+use Rattle.ranges.proofs.splice.Statement.{statement}
+use Rattle.ranges.proofs.splice.Tie as tie
 
 resize-requires : tie.Need-resize-requires
 resize-requires c κs = search needs

@@ -1,12 +1,12 @@
--- `buffer::exchange` meets its contract. The loop's invariant: the first i bytes of the two ranges are exchanged. Assumes nothing.
+-- `ranges::exchange` meets its contract. The loop's invariant: the first i bytes of the two ranges are exchanged. Assumes nothing.
 use mathlib.Core.Path.{_≡_}
 use Prim.Native.Nat.{_-_, _≤_}
 use native.Mathlib.Omega.{arith}
 use lib.ListN.{length, length-set}
 use Rattle.buffer.specs.Move.{exchanged}
-use Rattle.buffer.proofs.Exchanges.{exchange-none, exchange-turn}
-use Rattle.buffer.proofs.exchange.Statement.{statement}
-use Rattle.buffer.proofs.exchange.Tie as tie
+use Rattle.ranges.proofs.Exchanges.{exchange-none, exchange-turn}
+use Rattle.ranges.proofs.exchange.Statement.{statement}
+use Rattle.ranges.proofs.exchange.Tie as tie
 
 abbrev Inv-loop : tie.InvT-loop
 Inv-loop s₀ a b n i₀ s i = (i ≤ n) × (length s ≡ length s₀) × (s ≡ exchanged s₀ a b i)

@@ -1,14 +1,14 @@
 -- Equal ranges exchanged: a turn of the loop, and what an exchange leaves of a rotation. Assumes nothing.
-use mathlib.Core.Path.{_≡_, refl, ap, _∙_, sym}
+use mathlib.Core.Path.{_≡_, ap, _∙_, sym}
 use mathlib.Core.List.{[], _∷_, _++_, append-assoc}
 use Prim.Native.Nat.{ℕ, _+_, _-_, _≤_, _<_}
 use native.Mathlib.Omega.{arith}
 use lib.ListN.{length, getD, take, drop, set, length-append, take-append-drop}
 use lib.Seq.{length-take-le}
 use Rattle.buffer.specs.Same.{Bytes}
 use Rattle.buffer.specs.Part.{part, put, length-part, part-at, around-part, drop-part, length-put, put-at, put-put, put-past, put-within}
 use Rattle.buffer.specs.Step.{part-suc, put-nil, set-put, put-next, getD-put-before, getD-put-after}
 use Rattle.buffer.specs.Move.{exchanged, rotated, rotated-at}
 
 -- two puts that do not meet, in either order
 put-comm : (s x y : Bytes) (at next : ℕ) → at + length x ≤ next → next + length y ≤ length s → put (put s next y) at x ≡ put (put s at x) next y

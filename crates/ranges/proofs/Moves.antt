@@ -1,25 +1,16 @@
--- One pure law for each turn of a loop that writes, and for each function that calls such ones. Assumes nothing.
+-- One pure law for each turn of a loop that moves a range, and for each function that calls such ones. Assumes nothing.
 use mathlib.Core.Path.{_≡_, refl, sym}
-use mathlib.Core.List.{[], _∷_, _++_, append-assoc, append-nil, reverse-append, reverse-reverse}
+use mathlib.Core.List.{[], _∷_, _++_, append-assoc, reverse-append, reverse-reverse}
 use Prim.Native.Nat.{ℕ, _+_, _-_, _≤_, _<_}
 use native.Mathlib.Omega.{arith}
-use lib.ListN.{length, getD, take, drop, set, replicate, length-append, length-drop, length-replicate, length-reverse, drop-of-length-le, replicate-append-replicate}
-use lib.Seq.{take-at, drop-at, take-all, take-length, drop-drop, length-take-le}
+use lib.ListN.{length, getD, take, drop, set, replicate, length-append, length-reverse}
+use lib.Seq.{take-at, drop-at, length-take-le}
 use Rattle.bytes.specs.Bytes.{rev, slice}
 use Rattle.buffer.specs.Same.{Bytes}
 use Rattle.buffer.specs.Part.{part, put, length-part, length-put, put-put, around-part, drop-part}
 use Rattle.buffer.specs.Step.{part-suc, part-cons, put-nil, set-put, put-next, put-front, getD-put-before, getD-put-after}
 use Rattle.buffer.specs.Zero.{zeroed}
 use Rattle.buffer.specs.Move.{moved, resized, rotated, rotated-is}
-
--- a turn of `fill_zero`
-pub fill-turn : (s : Bytes) (from i : ℕ) → from ≤ i → i < length s → set (put s from (replicate (i - from) 0)) i 0 ≡ put s from (replicate (i + 1 - from) 0)
-fill-turn s from i f h =
-    let k : ℕ = i - from in
-    let z : Bytes = replicate k 0 in
-    let lz : length z ≡ k = length-replicate k 0 in
-    let e : i + 1 - from ≡ k + 1 = omega arith in
-    cc (put-next s z from i 0 (omega arith) h, replicate-append-replicate {A = ℕ} k 1 0)
 
 -- nothing is moved yet
 pub down-none : (s : Bytes) (from to : ℕ) → s ≡ moved s from to 0
@@ -70,16 +61,6 @@ up-turn s from to n j a h l =
       put-front s (x ∷ []) p (to + j) (to + j + 1) refl (omega arith),
       part-cons s (from + j) m 0 (omega arith),
     )
-
--- a copy into the part of a slice from `at` on
-pub copy-law : (s src ys : Bytes) (at : ℕ) → at + length src ≤ length s → ys ≡ take (length src) src ++ drop (length src) (take (length s - at) (drop at s))
-    → take at s ++ (ys ++ drop (length s - at) (drop at s)) ≡ put s at src
-unfolding put
-copy-law s src ys at h e =
-    let l : length (drop at s) ≡ length s - at = length-drop at s in
-    let a : take (length s - at) (drop at s) ≡ drop at s = take-all (length s - at) (drop at s) (omega arith) in
-    let b : drop (length s - at) (drop at s) ≡ [] = drop-of-length-le (drop at s) {i = length s - at} (omega arith) in
-    cc (take-length src, drop-drop (length src) at s, append-nil ys)
 
 -- the tail moved, and what is freed zeroed
 pub resize-law : (s : Bytes) (from to end n : ℕ) → from ≤ to → to ≤ end → end ≤ length s → from + n + (end - to) ≤ length s
