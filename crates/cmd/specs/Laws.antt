@@ -15,7 +15,7 @@ use Rattle.config.specs.Limits.{maxBytes}
 use Rattle.call_record.specs.Record.{Argument}
 use Rattle.cursor.specs.At.{sizeAt, nextAt, argAt, argsAt, ArgIn}
 use Rattle.cursor.specs.Steps.{args-none, args-more}
-use Rattle.command_key.specs.Copied.{Copied, copied-start, copied-next, copied-done, copied-ends, copied-room}
+use Rattle.buffer.specs.Copied.{Copied, copied-start, copied-next, copied-done, copied-ends, copied-room}
 use Rattle.command_key.specs.Joined.{cutAt, cut-is, cut-length}
 use Rattle.decimal.specs.Digits.{digits}
 use Rattle.decimal.specs.DigitLaws.{count-max}
@@ -196,6 +196,10 @@ pttlStart = 42 ∷ 50 ∷ 13 ∷ 10 ∷ 36 ∷ 52 ∷ 13 ∷ 10 ∷ 80 ∷ 84 �
 pub pttl-pieces : (key : Bytes) → packed (pttlTexts key) ≡ pttlStart ++ blob key
 unfolding blobBytes blob digits
 pttl-pieces key = packed-pieces (pttlTexts key) ∙ ap (λ (x : Bytes). pttlStart ++ x) (append-nil (blob key))
+
+-- how long it is
+pub pttl-length : (key : Bytes) → length (packed (pttlTexts key)) ≡ 14 + (5 + length (digits (length key)) + length key)
+pttl-length key = ap length (pttl-pieces key) ∙ length-append pttlStart (blob key) ∙ ap (λ (n : ℕ). 14 + n) (blob-length key)
 
 -- `CLIENT CACHING YES`
 pub caching-is : packed cachingTexts ≡ 42 ∷ 51 ∷ 13 ∷ 10 ∷ 36 ∷ 54 ∷ 13 ∷ 10 ∷ 67 ∷ 76 ∷ 73 ∷ 69 ∷ 78 ∷ 84 ∷ 13 ∷ 10 ∷ 36 ∷ 55 ∷ 13 ∷ 10 ∷ 67 ∷ 65 ∷ 67 ∷ 72 ∷ 73 ∷ 78 ∷ 71 ∷ 13 ∷ 10 ∷ 36 ∷ 51 ∷ 13 ∷ 10 ∷ 89 ∷ 69 ∷ 83 ∷ 13 ∷ 10 ∷ []

@@ -3,9 +3,10 @@
 // of the buffer as it was, and answers the place behind them.
 use cursor::Args;
 ghost use mathlib.Core.Path.{_≡_};
-ghost use Prim.Native.Nat.{_+_, _*_, _≤_};
+ghost use Prim.Native.Nat.{ℕ, _+_, _*_, _≤_};
 ghost use lib.ListN.{length};
 ghost use Rattle.buffer.specs.Part.{put};
+ghost use Rattle.buffer.specs.Same.{Bytes};
 ghost use Rattle.config.specs.Limits.{maxBytes, maxArguments};
 ghost use Rattle.decimal.specs.Digits.{digits};
 ghost use Rattle.cursor.specs.At.{argAt, argsOf, ArgIn, ArgsHere};
@@ -85,6 +86,13 @@ pub fn write_command(s: &[u8], k: Args, cursor: u64, dst: &mut [u8], to: usize) 
     write_arguments(s, k, cursor, dst, e)
 }
 
+// How long a head is, whatever its mark.
+pub fn head_len(n: u64) -> usize
+    ensures { λ r. ⌜ ((mark : ℕ) → r ≡ length (head mark n)) ⌝ }
+{
+    3 + decimal::countdigits(n)
+}
+
 // How long a blob of len bytes is.
 pub fn bulklen(len: usize) -> usize
     requires { ⌜ len ≤ maxBytes ⌝ }
@@ -112,13 +120,21 @@ pub fn args_len(s: &[u8], k: Args, cursor: u64) -> usize
 {
     let mut at = k.at;
     let mut left = k.left;
-    let mut total = 3 + decimal::countdigits(k.left as u64);
+    let mut total = head_len(k.left as u64);
     while left > 0 {
         total += bulklen(sent_len(s, at, cursor));
         at = at + 5 + buffer::read_u32(s, at + 1) as usize;
         left -= 1;
     }
     total
+}
+
+// How long `PTTL` and a key of len bytes are when packed.
+pub fn pttl_len(len: usize) -> usize
+    requires { ⌜ len ≤ maxBytes ⌝ }
+    ensures { λ r. ⌜ ((key : Bytes) → length key ≡ len → r ≡ length (packed (pttlTexts key))) ⌝ }
+{
+    bulklen(len) + 14
 }
 
 // `PTTL` and a key.
@@ -128,6 +144,13 @@ pub fn write_pttl(dst: &mut [u8], to: usize, key: &[u8]) -> usize
 {
     buffer::copy_to(dst, to, b"*2\r\n$4\r\nPTTL\r\n");
     write_blob(dst, to + 14, key)
+}
+
+// How long `CLIENT CACHING YES` is when packed.
+pub fn client_caching_len() -> usize
+    ensures { λ r. ⌜ r ≡ length (packed cachingTexts) ⌝ }
+{
+    38
 }
 
 // `CLIENT CACHING YES`.
@@ -140,7 +163,14 @@ pub fn write_client_caching(dst: &mut [u8], to: usize) -> usize
         to,
         b"*3\r\n$6\r\nCLIENT\r\n$7\r\nCACHING\r\n$3\r\nYES\r\n",
     );
-    to + 38
+    to + client_caching_len()
+}
+
+// How long `MULTI` is when packed.
+pub fn multi_len() -> usize
+    ensures { λ r. ⌜ r ≡ length (packed multiTexts) ⌝ }
+{
+    15
 }
 
 // `MULTI`.
@@ -149,7 +179,14 @@ pub fn write_multi(dst: &mut [u8], to: usize) -> usize
     ensures { λ r. ⌜ (r ≡ to + length (packed multiTexts)) × (now (dst .exit) ≡ put (now (dst .entry)) to (packed multiTexts)) ⌝ }
 {
     buffer::copy_to(dst, to, b"*1\r\n$5\r\nMULTI\r\n");
-    to + 15
+    to + multi_len()
+}
+
+// How long `EXEC` is when packed.
+pub fn exec_len() -> usize
+    ensures { λ r. ⌜ r ≡ length (packed execTexts) ⌝ }
+{
+    14
 }
 
 // `EXEC`.
@@ -158,5 +195,5 @@ pub fn write_exec(dst: &mut [u8], to: usize) -> usize
     ensures { λ r. ⌜ (r ≡ to + length (packed execTexts)) × (now (dst .exit) ≡ put (now (dst .entry)) to (packed execTexts)) ⌝ }
 {
     buffer::copy_to(dst, to, b"*1\r\n$4\r\nEXEC\r\n");
-    to + 14
+    to + exec_len()
 }

@@ -19,15 +19,13 @@ Inv-loop s cursor at₀ left₀ total₀ at left total = ArgsIn s left at × (to
 abbrev μ-loop : tie.MeasureT-loop
 μ-loop s cursor at₀ left₀ total₀ at left total = left
 
-countdigits-requires : tie.Need-countdigits-requires Inv-loop μ-loop
-countdigits-requires c κs = search needs
-
-add-total : tie.Need-add-total Inv-loop μ-loop
-add-total c = let e = c .countdigits .ensures in let m = count-max (c .before .before .args .k .left) (omega arith) in omega arith
+head-len-requires : tie.Need-head-len-requires Inv-loop μ-loop
+head-len-requires c κs = search needs
 
 loop-holds : tie.Need-loop-holds Inv-loop μ-loop
 loop-holds c =
-    let e = c .countdigits .ensures in
+    let e = c .head-len .ensures 42 in
+    let h = laws.head-length 42 (c .before .before .args .k .left) in
     let m = count-max (c .before .before .args .k .left) (omega arith) in
     let l = laws.packed-length (c .before .before .args .s .now) (c .before .before .args .cursor) (c .before .before .args .k .left) (c .before .before .args .k .at) in
     (c .before .before .pre .0, omega arith, omega arith, omega arith)
@@ -42,8 +40,8 @@ bulklen-requires c κs =
     let e = c .sent-len .ensures in
     omega arith
 
-add-total-2 : tie.Need-add-total-2 Inv-loop μ-loop
-add-total-2 c =
+add-total : tie.Need-add-total Inv-loop μ-loop
+add-total c =
     let v = c .before .before .before .loop .inv in
     let w = in-first _ _ _ (λ z. omega arith) (v .0) in
     let i = w .inside in
@@ -113,12 +111,11 @@ args-len-spec =
     (tie.spec
     Inv-loop
     μ-loop
-    countdigits-requires
-    add-total
+    head-len-requires
     loop-holds
     sent-len-requires
     bulklen-requires
-    add-total-2
+    add-total
     add-at
     add-read-u32
     read-u32-requires

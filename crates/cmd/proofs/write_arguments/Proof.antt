@@ -4,7 +4,7 @@ use Prim.Native.Nat.{ℕ, _+_, _-_}
 use native.Mathlib.Omega.{arith}
 use Rattle.cursor.specs.At.{ArgsIn}
 use Rattle.cursor.specs.Steps.{in-more, in-first}
-use Rattle.command_key.specs.Copied as cop
+use Rattle.buffer.specs.Copied as cop
 use Rattle.cmd.specs.Pack.{blob}
 use Rattle.cmd.specs.Laws as laws
 use Rattle.cmd.proofs.write_arguments.Statement.{statement}
