@@ -13,7 +13,7 @@ use Rattle.decimal.specs.Digits.{digits}
 use Rattle.decimal.specs.Read.{numDef}
 use Rattle.decimal.specs.ReadLaws.{num-bounds, crlf-in}
 use Rattle.decimal.specs.NumLaw.{num-law, crlf-law, head-ge}
-use Rattle.decimal.specs.Places.{after, first, getD-drop0}
+use Rattle.buffer.specs.Places.{after, first, getD-drop0}
 use Rattle.decimal.specs.declared.Num.the-variants.{Val}
 use Rattle.resp3.specs.declared.Kind.{Kind}
 use Rattle.resp3.specs.declared.Kind.the-variants.{BlobString, SimpleString, SimpleError, Number, Null, Double, Boolean, BlobError, VerbatimString, BigNumber, Array, Map, Set, Attribute, Push}

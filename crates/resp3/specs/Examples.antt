@@ -1,4 +1,7 @@
--- One example of each kind of RESP3, after the specification, whose text was not at hand to compare them with. Assumes nothing.
+-- The worked examples of the RESP3 specification, each kind at least once. The specification's text was not at hand: they are written as the authors know them.
+-- Held against other readers and writers of RESP3 (crates/resp3_vectors/judges has the means): hiredis 1.0.3 reads each of these lines as the same kind, but
+-- for the blob error and the attributes, which it does not know; redis-server 7.0.15 writes values of the same form for every kind but the blob error
+-- (ServerExamples.antt). So the blob error's form rests on knowledge of the specification alone. Assumes nothing.
 use mathlib.Core.Path.{_≡_, refl}
 use mathlib.Core.Bool.{true, false}
 use lib.IntN.{pos}
@@ -39,6 +42,10 @@ a-double : encode (double (ascii "1.23")) ≡ ascii ",1.23\r\n"
 unfolding written
 a-double = refl
 
+infinities : (encode (double (ascii "inf")) ≡ ascii ",inf\r\n") × (encode (double (ascii "-inf")) ≡ ascii ",-inf\r\n")
+unfolding written
+infinities = (refl, refl)
+
 booleans : (encode (boolean true) ≡ ascii "#t\r\n") × (encode (boolean false) ≡ ascii "#f\r\n")
 unfolding written
 booleans = (refl, refl)
@@ -54,6 +61,11 @@ verbatim-string = refl
 big-number : encode (bigNumber (ascii "3492890328409238509324850943850943825024385")) ≡ ascii "(3492890328409238509324850943850943825024385\r\n"
 unfolding written
 big-number = refl
+
+-- [1, 2, 3]
+numbers : encode (array (more (number (pos 1)) (more (number (pos 2)) (more (number (pos 3)) none)))) ≡ ascii "*3\r\n:1\r\n:2\r\n:3\r\n"
+unfolding written
+numbers = refl
 
 -- [[1, "hello", 2], false]
 an-array :
@@ -80,6 +92,13 @@ an-attribute :
     ≡ ascii "*3\r\n:1\r\n:2\r\n|1\r\n+ttl\r\n:3600\r\n:3\r\n"
 unfolding written
 an-attribute = refl
+
+-- an attribute before a reply: how often two keys were asked for, and then an array of two numbers
+key-popularity :
+    encode (attribute (pair (simpleString (ascii "key-popularity")) (map (pair (blobString (ascii "a")) (double (ascii "0.1923")) (pair (blobString (ascii "b")) (double (ascii "0.0012")) nil))) nil) (array (more (number (pos 2039123)) (more (number (pos 9543892)) none))))
+    ≡ ascii "|1\r\n+key-popularity\r\n%2\r\n$1\r\na\r\n,0.1923\r\n$1\r\nb\r\n,0.0012\r\n*2\r\n:2039123\r\n:9543892\r\n"
+unfolding written
+key-popularity = refl
 
 a-push :
     encode (push (more (simpleString (ascii "pubsub")) (more (simpleString (ascii "message")) (more (simpleString (ascii "somechannel")) (more (simpleString (ascii "this is the message")) none)))))

@@ -4,7 +4,8 @@ use mathlib.Core.Logic.{_⊎_, inl, inr}
 use mathlib.Core.List.{List, [], _∷_}
 use Prim.Native.Nat.{ℕ}
 use lib.Dec.{eqb}
-use Rattle.buffer.specs.Cases.{byTest, eqb-yes}
+use borrow.Author.Tests.{eqb-true}
+use Rattle.buffer.specs.Cases.{byTest}
 use Rattle.resp3.specs.declared.Kind.{Kind}
 use Rattle.resp3.specs.declared.Kind.the-variants.{BlobString, SimpleString, SimpleError, Number, Null, Double, Boolean, BlobError, VerbatimString, BigNumber, Array, Map, Set, Attribute, Push, Unknown}
 use Rattle.resp3.specs.Kinds.{byteOf, kinds, pick, kindOf}
@@ -34,7 +35,7 @@ pick-known : (b : ℕ) (ks : List Kind) → (b ≡ byteOf (pick b ks)) ⊎ (pick
 pick-known b [] = inr refl
 pick-known b (k ∷ ks) =
     byTest (eqb b (byteOf k))
-    (λ e. inl (rw e (eqb-yes b (byteOf k) e)))
+    (λ e. inl (rw e (eqb-true b (byteOf k) e)))
     (λ e. rw e (pick-known b ks))
 
 -- a byte begins the kind that it is found as, or none

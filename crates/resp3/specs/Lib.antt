@@ -10,4 +10,5 @@ pub mod Says
 pub mod Sound
 pub mod Law
 pub mod Examples
+pub mod ServerExamples
 pub mod Cases

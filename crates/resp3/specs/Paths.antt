@@ -13,7 +13,7 @@ use Rattle.buffer.specs.Cases.{byTest}
 use Rattle.config.specs.Limits.{maxBytes, maxDepth}
 use Rattle.decimal.specs.Read.{crlfB, numDef}
 use Rattle.decimal.specs.ReadLaws.{num-out, num-bounds}
-use Rattle.decimal.specs.Places.{getD-out}
+use Rattle.buffer.specs.Places.{getD-out}
 use Rattle.decimal.specs.declared.Num.{Num}
 use Rattle.decimal.specs.declared.Num.the-variants.{Val, Bad as BadNum}
 use Rattle.resp3.specs.declared.Kind.{Kind}

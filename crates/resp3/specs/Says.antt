@@ -13,7 +13,7 @@ use Rattle.buffer.specs.Same.{Bytes}
 use Rattle.buffer.specs.Cases.{byTest}
 use Rattle.decimal.specs.Read.{crlfB, numDef}
 use Rattle.decimal.specs.ReadLaws.{crlf-in}
-use Rattle.decimal.specs.Places.{inside, step}
+use Rattle.buffer.specs.Places.{inside, step}
 use Rattle.decimal.specs.NumSound.{crlf-sound, num-sound}
 use Rattle.decimal.specs.declared.Num.{Num}
 use Rattle.decimal.specs.declared.Num.the-variants.{Val, Bad as BadNum}

@@ -1,9 +1,13 @@
-// Outside vectors of RESP3, damaged ones among them: writes a line for each that says what the bytes are found to be.
+// Vectors of RESP3, damaged ones among them: writes each line of the input and behind it what the bytes that it spells are found to be. In a line \r is CR, \n is
+// LF, and a backslash and another byte are that byte; a line that begins with `/` is a heading. Where the vectors come from is said in judges/README.md.
+use libc::STDIN_FILENO;
 use libc::STDOUT_FILENO;
 use resp3::Kind;
 use resp3_element::Cursor;
 use resp3_element::Elements;
 use resp3_element::Integer;
+ghost use Prim.Native.Nat.{_+_, _≤_, _<_};
+ghost use lib.ListN.{length};
 ghost use Rattle.resp3.specs.Value.{IsValue};
 ghost use Rattle.resp3_vectors.specs.Standing.{Standing};
 
@@ -43,8 +47,12 @@ fn put_integer(z: i64) {
         put(b"0");
     } else if z == 1234 {
         put(b"1234");
+    } else if z == 12345 {
+        put(b"12345");
     } else if z == -1 {
         put(b"-1");
+    } else if z == -2 {
+        put(b"-2");
     } else if z == 9223372036854775807 {
         put(b"9223372036854775807");
     } else if z == -9223372036854775808 {
@@ -109,155 +117,114 @@ fn describe(s: &[u8])
     }
 }
 
+// What the bytes are found to be.
 fn show(s: &[u8]) {
     if resp3::is_value(s) {
         describe(s);
     } else {
         put(b"refused");
     }
+}
+
+// What the first n bytes of a buffer are found to be.
+fn show_front(out: &[u8], n: usize) {
+    if n <= out.len() {
+        let start = 0;
+        show(&out[start..n]);
+    }
+}
+
+// The byte that b stands for: itself, or behind a backslash CR for r and LF for n.
+fn spelled(b: u8, behind: bool) -> u8 {
+    if behind {
+        match b {
+            b'r' => 13,
+            b'n' => 10,
+            _ => b,
+        }
+    } else {
+        b
+    }
+}
+
+// The place behind a backslash at i, or i.
+fn past_backslash(line: &[u8], i: usize) -> usize
+    requires { ⌜ i < length (now line) ⌝ }
+    ensures { λ r. ⌜ (i ≤ r) × (r ≤ i + 1) ⌝ }
+{
+    if line[i] == b'\\' { i + 1 } else { i }
+}
+
+// The bytes that a line spells, as far as the buffer holds them: how many they are.
+fn unescape(line: &[u8], out: &mut [u8]) -> usize {
+    let mut i = 0;
+    let mut n = 0;
+    while n < out.len() {
+        if i >= line.len() {
+            return n;
+        }
+        let k = past_backslash(line, i);
+        if k >= line.len() {
+            return n;
+        }
+        out[n] = spelled(line[k], i < k);
+        i = k + 1;
+        n += 1;
+    }
+    n
+}
+
+// A line of the input, and behind it what its bytes are found to be.
+fn show_line(line: &[u8]) {
+    put(line);
+    if is_heading(line) {
+        put(b"\n");
+        return;
+    }
+    let mut out = io::buffer();
+    let n = unescape(line, &mut out);
+    put(b" => ");
+    show_front(&out, n);
     put(b"\n");
 }
 
-// Lines: simple strings and errors, doubles, big numbers.
-fn lines() {
-    put(b"lines\n");
-    show(b"+hello world\r\n");
-    show(b"+\r\n");
-    show(b"-ERR this is the error description\r\n");
-    show(b",1.23\r\n");
-    show(b",inf\r\n");
-    show(b",\r\n");
-    show(b"(3492890328409238509324850943850943825024385\r\n");
-    show(b"+hello\n");
-    show(b"+hello\r");
-    show(b"+hel\nlo\r\n");
-    show(b"+hel\rlo\r\n");
-    show(b"+hello");
-    show(b"-\n\r\n");
+// Whether a line is a heading: it begins with a byte that begins no value.
+fn is_heading(line: &[u8]) -> bool {
+    if line.len() == 0 {
+        return false;
+    }
+    line[0] == b'/'
 }
 
-// Blob strings and errors, verbatim strings.
-fn blobs() {
-    put(b"blobs\n");
-    show(b"$11\r\nhello world\r\n");
-    show(b"$0\r\n\r\n");
-    show(b"*1\r\n$4\r\n\r\n\r\n\r\n");
-    show(b"!21\r\nSYNTAX invalid syntax\r\n");
-    show(b"=15\r\ntxt:Some string\r\n");
-    show(b"=4\r\nmkd:\r\n");
-    show(b"$5\r\nhell\r\n");
-    show(b"$5\r\nhellos\r\n");
-    show(b"$05\r\nhello\r\n");
-    show(b"$+5\r\nhello\r\n");
-    show(b"$-1\r\n");
-    show(b"$-0\r\n\r\n");
-    show(b"$\r\n\r\n");
-    show(b"$?\r\n");
-    show(b"=3\r\ntxt\r\n");
-    show(b"=15\r\ntxt;Some string\r\n");
-    show(b"$5\nhello\r\n");
-    show(b"$18446744073709551617\r\na\r\n");
-    show(b"$9223372036854775807\r\na\r\n");
-    show(b"$99999999999999999999999999999999999999999\r\na\r\n");
+// Where the line that starts at `at` ends.
+fn line_end(s: &[u8], at: usize) -> usize
+    requires { ⌜ at ≤ length (now s) ⌝ }
+    ensures { λ r. ⌜ (at ≤ r) × (r ≤ length (now (s .entry))) ⌝ }
+{
+    let mut i = at;
+    while i < s.len() {
+        if s[i] == b'\n' {
+            return i;
+        }
+        i += 1;
+    }
+    i
 }
 
-// Integers, booleans, null.
-fn scalars() {
-    put(b"scalars\n");
-    show(b":1234\r\n");
-    show(b":0\r\n");
-    show(b":-1\r\n");
-    show(b":9223372036854775807\r\n");
-    show(b":-9223372036854775808\r\n");
-    show(b"#t\r\n");
-    show(b"#f\r\n");
-    show(b"_\r\n");
-    show(b":9223372036854775808\r\n");
-    show(b":-9223372036854775809\r\n");
-    show(b":18446744073709551616\r\n");
-    show(b":-0\r\n");
-    show(b":+1\r\n");
-    show(b":01\r\n");
-    show(b":1 \r\n");
-    show(b":\r\n");
-    show(b":-\r\n");
-    show(b":1\n");
-    show(b"#x\r\n");
-    show(b"#\r\n");
-    show(b"#tt\r\n");
-    show(b"_x\r\n");
-    show(b"_\n");
-    show(b"_");
-}
-
-// Arrays, maps, sets, pushes, attributes.
-fn lists() {
-    put(b"lists\n");
-    show(b"*0\r\n");
-    show(b"*3\r\n:1\r\n:2\r\n:3\r\n");
-    show(b"*2\r\n*3\r\n:1\r\n$5\r\nhello\r\n:2\r\n#f\r\n");
-    show(b"%2\r\n+first\r\n:1\r\n+second\r\n:2\r\n");
-    show(b"~5\r\n+orange\r\n+apple\r\n#t\r\n:100\r\n:999\r\n");
-    show(b">4\r\n+pubsub\r\n+message\r\n+somechannel\r\n+this is the message\r\n");
-    show(b">0\r\n");
-    show(b"*3\r\n:1\r\n:2\r\n|1\r\n+ttl\r\n:3600\r\n:3\r\n");
-    show(
-        b"|1\r\n+key-popularity\r\n%2\r\n$1\r\na\r\n,0.1923\r\n$1\r\nb\r\n,0.0012\r\n*2\r\n:2039123\r\n:9543892\r\n",
-    );
-    show(b"|0\r\n_\r\n");
-    show(b"|0\r\n-ERR no\r\n");
-    show(b"|0\r\n*1\r\n:1\r\n");
-    show(b"|0\r\n$1\r\na\r\n");
-    show(b"*1\r\n>1\r\n|0\r\n_\r\n");
-    show(b">2\r\n$10\r\ninvalidate\r\n*2\r\n$1\r\na\r\n$1\r\nb\r\n");
-    show(b">2\r\n$10\r\ninvalidate\r\n_\r\n");
-    show(b"*3\r\n:1\r\n:2\r\n");
-    show(b"*2\r\n:1\r\n:2\r\n:3\r\n");
-    show(b"*-1\r\n");
-    show(b"*00\r\n");
-    show(b"*+0\r\n");
-    show(b"*?\r\n");
-    show(b"%1\r\n+first\r\n");
-    show(b"%2\r\n+first\r\n:1\r\n");
-    show(b"|1\r\n+a\r\n:1\r\n");
-    show(b"|0\r\n");
-    show(b"*18446744073709551616\r\n");
-    show(b"%9223372036854775808\r\n");
-    show(b"*1\r\n*\r\n");
-    show(b".\r\n");
-    show(b"\r\n");
-    show(b"");
-    show(b"_\r\n_\r\n");
-    show(b"_\r\n\r\n");
-}
-
-// Sixteen levels, and seventeen.
-fn depths() {
-    put(b"depths\n");
-    show(
-        b"*1\r\n*1\r\n*1\r\n*1\r\n*1\r\n*1\r\n*1\r\n*1\r\n*1\r\n*1\r\n*1\r\n*1\r\n*1\r\n*1\r\n*1\r\n_\r\n",
-    );
-    show(
-        b"*1\r\n*1\r\n*1\r\n*1\r\n*1\r\n*1\r\n*1\r\n*1\r\n*1\r\n*1\r\n*1\r\n*1\r\n*1\r\n*1\r\n*1\r\n*1\r\n_\r\n",
-    );
-    show(
-        b"|0\r\n|0\r\n|0\r\n|0\r\n|0\r\n|0\r\n|0\r\n|0\r\n|0\r\n|0\r\n|0\r\n|0\r\n|0\r\n|0\r\n|0\r\n:1\r\n",
-    );
-    show(
-        b"|0\r\n|0\r\n|0\r\n|0\r\n|0\r\n|0\r\n|0\r\n|0\r\n|0\r\n|0\r\n|0\r\n|0\r\n|0\r\n|0\r\n|0\r\n|0\r\n:1\r\n",
-    );
-    show(
-        b"*1\r\n%1\r\n+k\r\n~1\r\n*1\r\n%1\r\n+k\r\n~1\r\n*1\r\n%1\r\n+k\r\n~1\r\n*1\r\n%1\r\n+k\r\n~1\r\n*1\r\n%1\r\n+k\r\n~1\r\n_\r\n",
-    );
-    show(
-        b"*1\r\n%1\r\n+k\r\n~1\r\n*1\r\n%1\r\n+k\r\n~1\r\n*1\r\n%1\r\n+k\r\n~1\r\n*1\r\n%1\r\n+k\r\n~1\r\n*1\r\n%1\r\n+k\r\n~1\r\n*1\r\n_\r\n",
-    );
+fn show_lines(s: &[u8]) {
+    let mut at = 0;
+    while at < s.len() {
+        let end = line_end(s, at);
+        show_line(&s[at..end]);
+        if end == s.len() {
+            return;
+        }
+        at = end + 1;
+    }
 }
 
 fn main() {
-    lines();
-    blobs();
-    scalars();
-    lists();
-    depths();
+    let mut input = io::large_buffer();
+    let n = io::read_full(STDIN_FILENO, &mut input);
+    show_lines(&input[..n]);
 }

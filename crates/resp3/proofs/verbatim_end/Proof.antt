@@ -1,7 +1,7 @@
 use mathlib.Core.Path.{sym, _∙_}
 use Prim.Native.Nat.{_+_}
 use native.Mathlib.Omega.{arith}
-use Rattle.decimal.specs.Places.{getD-out}
+use Rattle.buffer.specs.Places.{getD-out}
 use Rattle.resp3.specs.Paths as paths
 use borrow.Author.Needs.{needs}
 use Rattle.resp3.proofs.verbatim_end.Statement.{statement}

@@ -1,6 +1,5 @@
 -- `resp3_vectors::put_elements` meets its contract. The cursor stands before some of the elements, fewer with each turn. Assumes nothing.
 use borrow.Author.Needs.{needs}
-use native.Mathlib.Omega.{arith}
 use Rattle.resp3_vectors.specs.Standing.{Standing, further}
 use Rattle.resp3_vectors.proofs.put_elements.Statement.{statement}
 use Rattle.resp3_vectors.proofs.put_elements.Tie as tie

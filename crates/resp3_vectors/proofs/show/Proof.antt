@@ -17,14 +17,11 @@ slice-aggregate-put c = search needs
 put-requires : tie.Need-put-requires
 put-requires c κs = search needs
 
-slice-aggregate-put-2 : tie.Need-slice-aggregate-put-2
-slice-aggregate-put-2 c = search needs
-
-put-requires-2 : tie.Need-put-requires-2
-put-requires-2 c κs = search needs
-
 returns : tie.Need-returns
 returns c = search needs
+
+returns-2 : tie.Need-returns-2
+returns-2 c = search needs
 
 pub show-spec : {M : Type 1} → statement M
 show-spec =
@@ -34,6 +31,5 @@ show-spec =
     describe-requires
     slice-aggregate-put
     put-requires
-    slice-aggregate-put-2
-    put-requires-2
-    returns)
+    returns
+    returns-2)
