@@ -31,7 +31,7 @@ pub record Sized (p : Setup) (n : ℕ) : Type 0 where
 
 -- ---- fields hold the numbers of a row that is within its shard's bytes
 
-entries-few : (ens : List Entry) → length ens ≤ entryBytes ens
+pub entries-few : (ens : List Entry) → length ens ≤ entryBytes ens
 unfolding entryBytes
 entries-few [] = zero-le
 entries-few (en ∷ ens) = omega (arith, entries-few ens)

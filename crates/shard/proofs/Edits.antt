@@ -21,34 +21,20 @@ module _ {s : Bytes} {at : ℕ} {front back : Row} {it : Item} (w : Stands s at 
   row = front ++ (it ∷ back)
 
   -- rotated to the front
-  pub brought-forward : rotated s 16 at (at + itemBytes it) ≡ encShard (length s) (it ∷ (front ++ back))
-  brought-forward =
-      ap (λ (z : Bytes). rotated z 16 at (at + itemBytes it)) (w .holds .is)
-      ∙ ap (λ (a : ℕ). rotated (encShard (length s) row) 16 a (a + itemBytes it)) (w .place)
-      ∙ item-forward (length s) front back it
-
-  -- one item less
-  pub one-less : length row - 1 ≡ length (front ++ back)
-  one-less = simp length-append (omega arith)
-
-  -- and its bytes less
-  pub bytes-less : rowBytes row - itemBytes it ≡ rowBytes (front ++ back)
-  bytes-less = omega (arith, bytes-around front back it)
+  pub brought-forward : (size : ℕ) → size ≡ itemBytes it → rotated s 16 at (at + size) ≡ encShard (length s) (it ∷ (front ++ back))
+  brought-forward size e = (λ i. rotated (w .holds .is i) 16 (w .place i) (w .place i + e i)) ∙ item-forward (length s) front back it
 
   -- cut out, with the header written
-  pub taken-out : put (put (resized s at (at + itemBytes it) (16 + rowBytes row) 0) 0 (le32 (length row - 1))) 4 (le32 (rowBytes row - itemBytes it))
-      ≡ encShard (length s) (front ++ back)
+  pub taken-out : (size count used : ℕ) → size ≡ itemBytes it → count ≡ length row → used ≡ rowBytes row
+      → put (put (resized s at (at + size) (16 + used) 0) 0 (le32 (count - 1))) 4 (le32 (used - size)) ≡ encShard (length s) (front ++ back)
   unfolding encItems rowBytes
-  taken-out =
-      let r = w .holds .room in
+  taken-out size count used p q t =
       let e : itemBytes it + 0 ≡ itemBytes it = omega arith in
-      rw (resized-none s at (at + itemBytes it) (16 + rowBytes row), one-less, bytes-less)
-      (ap (λ (z : Bytes). counted (spliced z at (at + itemBytes it) (16 + rowBytes row) [])) (w .holds .is)
-      ∙ ap (λ (a : ℕ). counted (spliced (encShard (length s) row) a (a + itemBytes it) (16 + rowBytes row) [])) (w .place)
-      ∙ rw e at (items-replaced (length s) front (it ∷ []) back [] r (omega (arith, bytes-around front back it))))
-    where
-      counted : Bytes → Bytes
-      counted z = put (put z 0 (le32 (length (front ++ back)))) 4 (le32 (rowBytes (front ++ back)))
+      let n : count - 1 ≡ length (front ++ back) = omega (arith, length-append front (it ∷ back), length-append front back) in
+      let b : used - size ≡ rowBytes (front ++ back) = omega (arith, bytes-around front back it) in
+      ap (λ (z : Bytes). put (put z 0 (le32 (count - 1))) 4 (le32 (used - size))) (resized-none s at (at + size) (16 + used))
+      ∙ (λ i. put (put (spliced (w .holds .is i) (w .place i) (w .place i + p i) (16 + t i) []) 0 (le32 (n i))) 4 (le32 (b i)))
+      ∙ rw e at (items-replaced (length s) front (it ∷ []) back [] (w .holds .room) (omega (arith, bytes-around front back it, w .holds .room)))
 
 -- an empty shard is zeros
 empty-shard : (n : ℕ) → 16 ≤ n → encShard n [] ≡ zeros n
@@ -56,9 +42,9 @@ unfolding encShard head encItems le rowBytes
 empty-shard n h = let e : 16 + (n - 16) ≡ n = omega arith in replicate-append-replicate {A = ℕ} 16 (n - 16) 0 ∙ ap zeros e
 
 -- header and items zeroed
-pub emptied : {s : Bytes} {row : Row} → Holds s row → zeroed s 0 (16 + rowBytes row) ≡ encShard (length s) []
+pub emptied : {s : Bytes} {row : Row} → Holds s row → (used : ℕ) → used ≡ rowBytes row → zeroed s 0 (16 + used) ≡ encShard (length s) []
 unfolding encShard
-emptied {s} {row} w =
+emptied {s} {row} w used u =
     let r = w .room in
     let M : Bytes = head (length row) (rowBytes row) ++ encItems row in
     let z : ℕ = length s - (16 + rowBytes row) in
@@ -66,5 +52,5 @@ emptied {s} {row} w =
     let is : s ≡ M ++ zeros z = w .is ∙ sym (append-assoc (head (length row) (rowBytes row)) (encItems row) (zeros z)) in
     let l : length M ≡ length (zeros b) = simp (length-append, length-head, length-items, length-replicate) (omega arith) in
     let e : b + z ≡ length s = omega arith in
-    ap (λ (y : Bytes). put y 0 (zeros b)) is ∙ put-at [] M (zeros z) (zeros b) 0 refl l
+    ap (λ (n : ℕ). zeroed s 0 (16 + n)) u ∙ ap (λ (y : Bytes). put y 0 (zeros b)) is ∙ put-at [] M (zeros z) (zeros b) 0 refl l
     ∙ replicate-append-replicate {A = ℕ} b z 0 ∙ ap zeros e ∙ sym (empty-shard (length s) (omega arith))

@@ -2,31 +2,22 @@
 use mathlib.Core.Path.{_≡_, sym, ap, _∙_}
 use Prim.Native.Nat.{ℕ, _+_, _-_, _≤_, zero-le}
 use native.Mathlib.Omega.{arith}
-use mathlib.Core.List.{List, [], _∷_, _++_, append-assoc}
+use mathlib.Core.List.{[], _∷_, _++_, append-assoc}
 use lib.ListN.{length, length-append}
 use Rattle.buffer.specs.Same.{Bytes}
 use Rattle.buffer.specs.Field.{readLe, read32, read64, read-past}
 use Rattle.buffer.specs.Part.{part, part-past}
-use Rattle.book.specs.Book.{Entry, Item, Row, rowEntries, entryBytes, rowBytes}
+use Rattle.book.specs.Book.{Item, Row, rowEntries, entryBytes, rowBytes}
 use Rattle.arena.specs.Layout.{zeros, head, encItem, encItems, encShard}
 use Rattle.arena.specs.Length.{length-head, length-items}
 use Rattle.arena.specs.Read.{Small, Smalls, head-first, head-second, key-length, entry-count, item-epoch, item-expiry, entries-length, item-key}
+use Rattle.arena.specs.Image.{items-few, entries-few}
 use Rattle.arena.specs.Edit.{itemBytes, placeAfter}
 use Rattle.arena.specs.Steps.{bytes-around}
 use Rattle.arena.specs.Pieces.{opened, rowBytes-append}
 use Rattle.shard.specs.Holds.{Holds, Stands}
 
--- a row takes at least a byte for each item, and for each entry
-items-few : (row : Row) → length row ≤ rowBytes row
-unfolding rowBytes
-items-few [] = zero-le
-items-few (it ∷ row) = omega (arith, items-few row)
-
-entries-few : (ens : List Entry) → length ens ≤ entryBytes ens
-unfolding entryBytes
-entries-few [] = zero-le
-entries-few (en ∷ ens) = omega (arith, entries-few ens)
-
+-- a row takes at least a byte for each entry
 pub all-few : (row : Row) → rowEntries row ≤ rowBytes row
 unfolding rowEntries rowBytes
 all-few [] = zero-le

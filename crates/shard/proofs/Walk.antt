@@ -5,8 +5,8 @@ use Prim.Native.Nat.{ℕ, _+_, _≤_, _<_}
 use native.Mathlib.Omega.{arith}
 use mathlib.Core.List.{List, [], _∷_, _++_}
 use lib.Seq.{append-snoc}
-use Rattle.book.specs.Book.{entryBytes, rowBytes}
-use Rattle.arena.specs.Pieces.{rowBytes-append, entryBytes-append}
+use Rattle.book.specs.Book.{rowBytes}
+use Rattle.arena.specs.Pieces.{rowBytes-append}
 
 -- `bytes` counts the bytes of things one after the other, each of which takes some
 pub record Counting {A : Type 0} (bytes : List A → ℕ) : Type 0 where
@@ -17,10 +17,6 @@ pub record Counting {A : Type 0} (bytes : List A → ℕ) : Type 0 where
 pub items-count : Counting rowBytes
 unfolding rowBytes
 items-count = record { none = refl; some = λ it row. omega arith; append = rowBytes-append }
-
-pub entries-count : Counting entryBytes
-unfolding entryBytes
-entries-count = record { none = refl; some = λ en ens. omega arith; append = entryBytes-append }
 
 -- the walk over all of them, from `start`, has come to `at`, and P holds of those that are left
 pub record Walk {A : Type 0} (bytes : List A → ℕ) (start : ℕ) (all : List A) (at : ℕ) (P : List A → Type 0) : Type 0 where

@@ -4,7 +4,7 @@ use mathlib.Core.List.{[], _∷_}
 use Rattle.buffer.specs.Same.{same}
 use Rattle.book.specs.Book.{Item, entryBytes}
 use Rattle.shard.specs.declared.Position.the-variants.{At, Absent}
-use Rattle.shard.specs.Position.{positionFrom, positionOf, entryFrom, entryOf}
+use Rattle.shard.specs.Position.{positionFrom, positionOf}
 
 -- an item of key 1, with the value 8 9 under command key 2 and the value 7 under command key 3 4: 33 + 19 + 19 bytes
 abbrev first : Item
@@ -32,16 +32,3 @@ second-at = refl
 pub none-at : positionOf (1 ∷ (0 ∷ [])) (first ∷ (second ∷ [])) ≡ Absent
 unfolding positionFrom same entryBytes
 none-at = refl
-
--- entries begin behind their item's key
-pub entry-first : entryOf 16 (2 ∷ []) first ≡ At 49
-unfolding entryFrom same
-entry-first = refl
-
-pub entry-second : entryOf 16 (3 ∷ (4 ∷ [])) first ≡ At 68
-unfolding entryFrom same
-entry-second = refl
-
-pub entry-none : entryOf 16 [] first ≡ Absent
-unfolding entryFrom same
-entry-none = refl

@@ -5,9 +5,9 @@ use mathlib.Core.List.{_∷_, _++_}
 use lib.ListN.{length}
 use Rattle.buffer.specs.Same.{Bytes}
 use Rattle.config.specs.Limits.{maxArena}
-use Rattle.book.specs.Book.{Entry, Item, Row, rowBytes}
+use Rattle.book.specs.Book.{Item, Row, rowBytes}
 use Rattle.book.specs.Rows.{Distinct}
-use Rattle.arena.specs.Layout.{encEntry, encShard}
+use Rattle.arena.specs.Layout.{encShard}
 use Rattle.arena.specs.Read.{Smalls}
 use Rattle.arena.specs.Edit.{placeAfter}
 
@@ -36,16 +36,3 @@ pub record ItemAt (s : Bytes) (at : ℕ) : Type 0 where
   pub back : Row
   pub item : Item
   pub stands : Stands s at front back item
-
--- the entry `en` stands at `at` in the bytes s, which are no longer than an arena may be
-pub record EntryStands (s : Bytes) (at : ℕ) (en : Entry) : Type 0 where
-  pub before : Bytes
-  pub behind : Bytes
-  pub is : s ≡ before ++ (encEntry en ++ behind)
-  pub starts : length before ≡ at
-  pub short : length s ≤ maxArena
-
--- some entry stands at `at`
-pub record EntryAt (s : Bytes) (at : ℕ) : Type 0 where
-  pub entry : Entry
-  pub stands : EntryStands s at entry

@@ -1,5 +1,4 @@
 pub mod Holds
 pub mod Position
-pub mod Looked
 pub mod Cases
 pub mod FromImage

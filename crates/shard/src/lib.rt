@@ -1,4 +1,4 @@
-// The cache's operations in place, on the bytes of one shard: find, touch, remove, invalidate, look up.
+// The cache's operations in place, on the bytes of one shard: read an item's fields, find, touch, remove, invalidate.
 //
 // Every function is lent bytes that hold a row (specs/Holds.antt), as the entry points have checked; none tests that again. A contract speaks
 // of the row that the bytes hold, or of the item that stands at the place given.
@@ -6,12 +6,11 @@ ghost use mathlib.Core.Path.{_≡_};
 ghost use mathlib.Core.List.{[], _∷_, _++_};
 ghost use lib.ListN.{length};
 ghost use Rattle.buffer.specs.Same.{same};
-ghost use Rattle.book.specs.Book.{Entry, Item, Row, find, without, entriesOf, rowEntries};
+ghost use Rattle.book.specs.Book.{Item, Row, find, without, entriesOf, rowEntries};
 ghost use Rattle.arena.specs.Layout.{encShard};
 ghost use Rattle.arena.specs.Edit.{itemBytes};
-ghost use Rattle.shard.specs.Holds.{Holds, Shard, Stands, ItemAt, EntryStands, EntryAt};
-ghost use Rattle.shard.specs.Position.{positionOf, entrySize, entryOf};
-ghost use Rattle.shard.specs.Looked.{Reads, lookupOn, Told};
+ghost use Rattle.shard.specs.Holds.{Holds, Shard, Stands, ItemAt};
+ghost use Rattle.shard.specs.Position.{positionOf};
 
 // Where something begins, if it is there.
 pub enum Position {
@@ -46,7 +45,7 @@ pub fn epoch_of(s: &[u8], at: usize) -> u64
 }
 
 // The expiry of the item at `at`.
-fn expiry_of(s: &[u8], at: usize) -> u64
+pub fn expiry_of(s: &[u8], at: usize) -> u64
     requires { ⌜ ItemAt (now s) at ⌝ }
     ensures { λ r. ⌜ ((front back : Row) (it : Item) → Stands (now (s .entry)) at front back it → r ≡ it .expiry) ⌝ }
 {
@@ -86,7 +85,7 @@ pub fn touch(s: &mut [u8], at: usize)
     ensures { λ _. ⌜ ((front back : Row) (it : Item) → Stands (now (s .entry)) at front back it → now (s .exit) ≡ encShard (length (now (s .entry))) (it ∷ (front ++ back))) ⌝ }
 {
     let end = at + item_len(s, at);
-    buffer::rotate(s, 16, at, end);
+    ranges::rotate(s, 16, at, end);
 }
 
 // Takes the item at `at` out.
@@ -97,7 +96,7 @@ pub fn remove(s: &mut [u8], at: usize)
     let size = item_len(s, at);
     let count = buffer::read_u32(s, 0);
     let used = buffer::read_u32(s, 4) as usize;
-    buffer::resize(s, at, at + size, 16 + used, 0);
+    ranges::resize(s, at, at + size, 16 + used, 0);
     buffer::write_u32(s, 0, count - 1);
     buffer::write_u32(s, 4, (used - size) as u32);
 }
@@ -141,126 +140,4 @@ pub fn clear(s: &mut [u8]) -> usize
     let end = 16 + buffer::read_u32(s, 4) as usize;
     buffer::fill_zero(s, 0, end);
     n
-}
-
-// The bytes that the entry at `at` takes.
-pub fn entry_len(s: &[u8], at: usize) -> usize
-    requires { ⌜ EntryAt (now s) at ⌝ }
-    ensures { λ r. ⌜ ((en : Entry) → EntryStands (now (s .entry)) at en → r ≡ entrySize en) ⌝ }
-{
-    let command = buffer::read_u32(s, at) as usize;
-    let value = buffer::read_u32(s, at + 4) as usize;
-    16 + command + value
-}
-
-// Whether the entry at `at` is this command key's. The lengths are compared first.
-fn has_command(s: &[u8], at: usize, command: &[u8]) -> bool
-    requires { ⌜ EntryAt (now s) at ⌝ }
-    ensures { λ r. ⌜ ((en : Entry) → EntryStands (now (s .entry)) at en → r ≡ same (now (command .entry)) (en .command)) ⌝ }
-{
-    if buffer::read_u32(s, at) as usize != command.len() {
-        return false;
-    }
-    buffer::same_at(s, at + 16, command)
-}
-
-// Where the command key's entry stands in the item at `at`.
-pub fn find_entry(s: &[u8], at: usize, command: &[u8]) -> Position
-    requires { ⌜ ItemAt (now s) at ⌝ }
-    ensures { λ r. ⌜ ((front back : Row) (it : Item) → Stands (now (s .entry)) at front back it → r ≡ entryOf at (now (command .entry)) it) ⌝ }
-{
-    let end = at + item_len(s, at);
-    let mut e = at + 32 + buffer::read_u32(s, at) as usize;
-    while e < end {
-        if has_command(s, e, command) {
-            return Position::At(e);
-        }
-        e = e + entry_len(s, e);
-    }
-    Position::Absent
-}
-
-// What an item has for a lookup.
-enum Reading {
-    // It is under another epoch, or past its expiry.
-    Stale,
-    // It has no value for the command key.
-    Bare,
-    // The value: `len` bytes, `skip` bytes behind the item's first.
-    Value { skip: usize, len: usize },
-}
-
-// What the item at `at` has for a lookup.
-fn read_item(s: &[u8], at: usize, command: &[u8], clock: u64, epoch: u64) -> Reading
-    requires { ⌜ ItemAt (now s) at ⌝ }
-    ensures { λ r. ⌜ ((front back : Row) (it : Item) → Stands (now (s .entry)) at front back it → Reads clock epoch (now (command .entry)) it r) ⌝ }
-{
-    if epoch != epoch_of(s, at) {
-        return Reading::Stale;
-    }
-    if expiry_of(s, at) < clock {
-        return Reading::Stale;
-    }
-    match find_entry(s, at, command) {
-        Position::At(e) => {
-            let skip = e - at + 16 + buffer::read_u32(s, e) as usize;
-            let len = buffer::read_u32(s, e + 4) as usize;
-            Reading::Value { skip, len }
-        }
-        Position::Absent => Reading::Bare,
-    }
-}
-
-// What a lookup answers.
-pub enum Looked {
-    // The value: the shard's bytes from `from` up to `to`.
-    Hit { from: usize, to: usize },
-    // No value; with the number of entries that are dropped.
-    Miss(usize),
-}
-
-// What `lookup_in` would answer; nothing changes, and a hit's bytes are those of the shard as it is.
-pub fn peek_in(s: &[u8], key: &[u8], command: &[u8], clock: u64, epoch: u64) -> Looked
-    requires { ⌜ Shard (now s) ⌝ }
-    ensures { λ r. ⌜ ((row : Row) → Holds (now (s .entry)) row → Told (now (s .entry)) (lookupOn (now (key .entry)) (now (command .entry)) clock epoch row) r) ⌝ }
-{
-    let Position::At(at) = find(s, key) else {
-        return Looked::Miss(0);
-    };
-    match read_item(s, at, command, clock, epoch) {
-        Reading::Stale => Looked::Miss(entry_count(s, at)),
-        Reading::Bare => Looked::Miss(0),
-        Reading::Value { skip, len } => Looked::Hit {
-            from: at + skip,
-            to: at + skip + len,
-        },
-    }
-}
-
-// Looks the command key's value up under the key: an item that is not current is dropped, another becomes the newest.
-pub fn lookup_in(s: &mut [u8], key: &[u8], command: &[u8], clock: u64, epoch: u64) -> Looked
-    requires { ⌜ Shard (now s) ⌝ }
-    ensures { λ r. ⌜ ((row : Row) → Holds (now (s .entry)) row → (now (s .exit) ≡ encShard (length (now (s .entry))) (lookupOn (now (key .entry)) (now (command .entry)) clock epoch row .row)) × Told (now (s .exit)) (lookupOn (now (key .entry)) (now (command .entry)) clock epoch row) r) ⌝ }
-{
-    let Position::At(at) = find(s, key) else {
-        return Looked::Miss(0);
-    };
-    match read_item(s, at, command, clock, epoch) {
-        Reading::Stale => {
-            let n = entry_count(s, at);
-            remove(s, at);
-            Looked::Miss(n)
-        }
-        Reading::Bare => {
-            touch(s, at);
-            Looked::Miss(0)
-        }
-        Reading::Value { skip, len } => {
-            touch(s, at);
-            Looked::Hit {
-                from: 16 + skip,
-                to: 16 + skip + len,
-            }
-        }
-    }
 }

@@ -1,9 +1,9 @@
 -- The space rule, as the code tests it: what a store leaves where the row after it fits, and where it does not. Assumes nothing.
-use mathlib.Core.Path.{_≡_, refl, sym, ap, _∙_}
-use Prim.Native.Nat.{ℕ, _+_, _-_, _≤_, _<_, zero-le}
+use mathlib.Core.Path.{_≡_}
+use Prim.Native.Nat.{ℕ, _+_, _-_, _≤_, _<_}
 use native.Mathlib.Omega.{arith}
 use mathlib.Core.Bool.{true, false}
-use mathlib.Core.List.{List, [], _∷_, _++_}
+use mathlib.Core.List.{_∷_, _++_}
 use lib.ListN.{length, length-append}
 use borrow.Author.Tests.{le-leb, lt-leb}
 use Rattle.buffer.specs.Same.{Bytes}
@@ -12,7 +12,7 @@ use Rattle.arena.specs.Layout.{encShard}
 use Rattle.arena.specs.Edit.{itemBytes}
 use Rattle.arena.specs.Steps.{bytes-around}
 use Rattle.shard_store.specs.Store.{judged, Leaves}
-use Rattle.shard_store.specs.Places.{itemRoom}
+use Rattle.shard_write.specs.Places.{itemRoom}
 
 module _ (s : Bytes) (new old : Row) where
   -- the row after the store does not fit, and nothing was changed
@@ -42,9 +42,3 @@ instead-space k c v x e front back it = omega (arith, front-space k c v x e (fro
 -- one item less where one goes
 pub same-count : (front back : Row) (it : Item) → length (front ++ (it ∷ back)) ≡ 1 + length (front ++ back)
 same-count front back it = simp length-append (omega arith)
-
--- items take at least a byte each
-pub items-few : (row : Row) → length row ≤ rowBytes row
-unfolding rowBytes
-items-few [] = zero-le
-items-few (it ∷ row) = omega (arith, items-few row)

@@ -1,6 +1,4 @@
-pub mod Writing
-pub mod Changes
-pub mod Walk
 pub mod Judging
-pub mod Updates
+pub mod Walk
 pub mod Cases
+pub mod Updates

@@ -1,31 +1,28 @@
 -- A store to an item that is there: where the entry goes, and the sizes after it, read off the bytes. Assumes that the bytes hold a row.
 use mathlib.Core.Path.{_≡_, refl, sym, ap, _∙_}
-use Prim.Native.Nat.{ℕ, _+_, _≤_, zero-le}
+use Prim.Native.Nat.{ℕ, _+_, _≤_}
 use native.Mathlib.Omega.{arith}
+use mathlib.Core.Option.{none}
 use mathlib.Core.List.{List, [], _∷_, _++_, append-nil}
 use lib.ListN.{length, length-append}
-use Rattle.buffer.specs.Cases.{byTest}
-use Rattle.buffer.specs.Same.{Bytes, same}
+use Rattle.buffer.specs.Same.{Bytes}
 use Rattle.buffer.specs.Field.{read32}
 use Rattle.config.specs.Limits.{maxArena}
-use Rattle.book.specs.Book.{Entry, Item, Row, setValue, entryBytes, rowBytes}
+use Rattle.book.specs.Book.{Entry, Item, Row, valueFor, entryBytes, rowBytes}
 use Rattle.arena.specs.Layout.{encShard}
+use Rattle.arena.specs.Image.{entries-few}
 use Rattle.arena.specs.Edit.{itemBytes, placeAfter}
 use Rattle.arena.specs.Pieces.{itemOf, entryBytes-append}
-use Rattle.shard.specs.declared.Position.the-variants.{At}
-use Rattle.shard.specs.Position.{entrySize, entryFrom, entryOf}
-use Rattle.shard.specs.Holds.{Stands, EntryStands}
+use Rattle.command_key.specs.Key.{keyBytes}
+use Rattle.shard.specs.declared.Position.the-variants.{At, Absent}
+use Rattle.shard.specs.Holds.{Stands}
 use Rattle.shard.proofs.Fields.{fields, used-read}
-use Rattle.shard.proofs.Entries.{stands-entry}
-use Rattle.shard_store.specs.Store.{newEntry}
-use Rattle.shard_store.specs.Places.{entryRoom, EntriesAt, Replaces}
-use Rattle.shard_store.proofs.Changes.{entry-space}
-
--- entries take at least a byte each
-entries-few : (ens : List Entry) → length ens ≤ entryBytes ens
-unfolding entryBytes
-entries-few [] = zero-le
-entries-few (en ∷ ens) = omega (arith, entries-few ens)
+use Rattle.shard_lookup.specs.Entries.{entrySize, entryOf, EntryStands}
+use Rattle.shard_lookup.specs.Whole.{wholeKey, whole-bytes}
+use Rattle.shard_lookup.proofs.Entries.{stands-entry, CommandAt, command-at, no-value}
+use Rattle.shard_write.specs.Places.{newEntry, entryRoom, EntriesAt}
+use Rattle.shard_write.proofs.Changes.{entry-space}
+use Rattle.shard_store.specs.Replaces.{Replaces}
 
 module _ {s : Bytes} {at from to added : ℕ} {front back : Row} {it : Item} {ef em eb : List Entry} (w : Replaces s at from to added front back it ef em eb) where
   -- the item with other entries
@@ -92,50 +89,23 @@ module _ {s : Bytes} {at from to added : ℕ} {front back : Row} {it : Item} {ef
 
 -- ---- the command's entry
 
--- the entry found, among entries the first of which stands at `from`, and what setting a value does
-pub record SetAt (from : ℕ) (c : Bytes) (ens : List Entry) (at : ℕ) : Type 0 where
-  pub front : List Entry
-  pub entry : Entry
-  pub back : List Entry
-  pub splits : ens ≡ front ++ (entry ∷ back)
-  pub place : at ≡ from + entryBytes front
-  pub set : (v : Bytes) → setValue c v ens ≡ front ++ (newEntry c v ∷ back)
-
--- what is found is set in its place
-pub set-at : (from : ℕ) (c : Bytes) (ens : List Entry) (at : ℕ) → entryFrom from c ens ≡ At at → SetAt from c ens at
-unfolding entryFrom setValue entryBytes
-set-at from c [] at e = let z : _≡_ {A = ℕ} 0 1 = cc in absurd (omega arith)
-set-at from c (en ∷ ens) at e =
-    byTest (same c (en .command))
-    (λ q.
-    let a : At from ≡ At at = rw q at e in
-    let b : from ≡ at = cc in
-    record { front = []; entry = en; back = ens; splits = refl; place = omega arith; set = λ v. rw q })
-    (λ q.
-    let was : SetAt _ c ens at = set-at _ c ens at (rw q at e) in
-    let p = was .place in
-    record {
-      front = en ∷ was .front;
-      entry = was .entry;
-      back = was .back;
-      splits = ap (λ (z : List Entry). en ∷ z) (was .splits);
-      place = omega arith;
-      set = λ v. rw q (ap (λ (z : List Entry). en ∷ z) (was .set v));
-    })
-
 module _ {s : Bytes} {at : ℕ} {front back : Row} {it : Item} (w : Stands s at front back it) where
   -- the command's entry in an item that stands at `at`
-  pub set-in : {c : Bytes} {e : ℕ} → entryOf at c it ≡ At e → SetAt (at + 32 + length (it .key)) c (it .entries) e
-  set-in {c} {e} q = set-at (at + 32 + length (it .key)) c (it .entries) e q
+  pub set-in : (c : Bytes) {e : ℕ} → entryOf at (keyBytes c (wholeKey c)) it ≡ At e → CommandAt (at + 32 + length (it .key)) c (it .entries) e
+  set-in c {e} q = command-at (at + 32 + length (it .key)) c (it .entries) e (rw (whole-bytes c) at q)
+
+  -- it has none
+  pub none-in : (c : Bytes) → entryOf at (keyBytes c (wholeKey c)) it ≡ Absent → valueFor c (it .entries) ≡ none
+  none-in c q = no-value _ c (it .entries) (rw (whole-bytes c) at q)
 
   -- it stands in the bytes
-  pub entry-of : {c : Bytes} {e : ℕ} (g : SetAt (at + 32 + length (it .key)) c (it .entries) e) → EntryStands s e (g .entry)
+  pub entry-of : {c : Bytes} {e : ℕ} (g : CommandAt (at + 32 + length (it .key)) c (it .entries) e) → EntryStands s e (g .entry)
   entry-of g =
       stands-entry {P = λ ens. Unit {0}} w
       (record { front = g .front; thing = g .entry; back = g .back; splits = g .splits; place = g .place; left = tt })
 
   -- it gives way
-  pub at-replaces : {c : Bytes} {e : ℕ} (g : SetAt (at + 32 + length (it .key)) c (it .entries) e) (to : ℕ) → to ≡ e + entrySize (g .entry)
+  pub at-replaces : {c : Bytes} {e : ℕ} (g : CommandAt (at + 32 + length (it .key)) c (it .entries) e) (to : ℕ) → to ≡ e + entrySize (g .entry)
       → Replaces s at e to 0 front back it (g .front) (g .entry ∷ []) (g .back)
   unfolding entryBytes
   at-replaces g to q = record { stands = w; splits = g .splits; starts = g .place; stops = omega arith; one = refl }

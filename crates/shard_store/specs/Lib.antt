@@ -1,3 +1,3 @@
 pub mod Store
-pub mod Places
+pub mod Replaces
 pub mod Cases

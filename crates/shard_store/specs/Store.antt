@@ -6,12 +6,8 @@ use mathlib.Core.Bool.{Bool, cond}
 use lib.ListN.{length}
 use Rattle.buffer.specs.Same.{Bytes}
 use Rattle.config.specs.Limits.{maxKey, maxBytes}
-use Rattle.book.specs.Book.{Entry, Row, Effect, stored, noSpace, find, storedRow, fits, ifFits}
+use Rattle.book.specs.Book.{Row, Effect, stored, noSpace, find, storedRow, fits, ifFits}
 use Rattle.arena.specs.Layout.{encShard}
-
--- an entry of this command key and value
-abbrev pub newEntry : Bytes → Bytes → Entry
-newEntry c v = record { command = c; value = v }
 
 -- a store that would leave the row `new` where the row was `old`, in a shard of n bytes: the space rule decides
 abbrev pub judged : ℕ → Row → Row → Effect

@@ -1,5 +1,6 @@
 -- `clear` meets its contract: header and items are zeroed, and what follows is zero (`emptied`). Assumes nothing.
 use native.Mathlib.Omega.{arith}
+use mathlib.Core.Path.{_∙_}
 use Rattle.shard.proofs.Fields.{used-read}
 use Rattle.shard.proofs.Edits.{emptied}
 use borrow.Author.Needs.{needs}
@@ -30,9 +31,7 @@ same-length c = search needs
 
 returns : tie.Need-returns
 returns c row h =
-    let u = used-read h in
-    let m = emptied h in
-    (cc, c .before .before .before .before .before .before .all-entries .ensures row h)
+    (c .before .before .fill-zero .ensures ∙ emptied h _ (c .before .before .before .before .read-u32 .ensures ∙ used-read h), c .before .before .before .before .before .before .all-entries .ensures row h)
 
 pub clear-spec : {M : Type 1} → statement M
 clear-spec =

@@ -1,5 +1,10 @@
 -- `remove` meets its contract: the steps of `taken-out`. Assumes nothing.
 use native.Mathlib.Omega.{arith}
+use mathlib.Core.Path.{ap, _∙_}
+use Prim.Native.Nat.{ℕ, _-_}
+use Rattle.buffer.specs.Same.{Bytes}
+use Rattle.buffer.specs.Field.{le32}
+use Rattle.buffer.specs.Part.{put}
 use Rattle.shard.proofs.Fields.{fields, count-read, used-read}
 use Rattle.shard.proofs.Edits.{taken-out}
 use borrow.Author.Needs.{needs}
@@ -59,10 +64,12 @@ same-length c = search needs
 
 returns : tie.Need-returns
 returns c front back it w =
-    let e = c .before .before .before .before .before .before .before .before .before .before .before .before .before .before .before .before .item-len .ensures front back it w in
-    let n = count-read (w .holds) in
-    let u = used-read (w .holds) in
-    cc (taken-out w)
+    let size : ℕ = c .before .before .before .before .before .before .before .before .before .before .before .before .before .before .before .before .item-len .result in
+    let count : ℕ = c .before .before .before .before .before .before .before .before .before .before .before .before .before .before .read-u32 .result in
+    let used : ℕ = c .before .before .before .before .before .before .before .before .before .before .before .before .read-u322 .result in
+    c .before .before .write-u322 .ensures
+    ∙ ap (λ (z : Bytes). put z 4 (le32 (used - size))) (c .before .before .before .before .before .before .write-u32 .ensures ∙ ap (λ (z : Bytes). put z 0 (le32 (count - 1))) (c .before .before .before .before .before .before .before .before .before .before .resize .ensures))
+    ∙ taken-out w size count used (c .before .before .before .before .before .before .before .before .before .before .before .before .before .before .before .before .item-len .ensures front back it w) (c .before .before .before .before .before .before .before .before .before .before .before .before .before .before .read-u32 .ensures ∙ count-read (w .holds)) (c .before .before .before .before .before .before .before .before .before .before .before .before .read-u322 .ensures ∙ used-read (w .holds))
 
 pub remove-spec : {M : Type 1} → statement M
 remove-spec =

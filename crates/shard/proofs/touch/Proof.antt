@@ -1,5 +1,6 @@
 -- `touch` meets its contract: the rotation of `brought-forward`. Assumes nothing.
 use native.Mathlib.Omega.{arith}
+use mathlib.Core.Path.{_∙_}
 use Rattle.shard.proofs.Fields.{fields}
 use Rattle.shard.proofs.Edits.{brought-forward}
 use borrow.Author.Needs.{needs}
@@ -27,7 +28,7 @@ same-length : tie.Need-same-length
 same-length c = search needs
 
 returns : tie.Need-returns
-returns c front back it w = let e = c .before .before .before .before .item-len .ensures front back it w in cc (brought-forward w)
+returns c front back it w = c .before .before .rotate .ensures ∙ brought-forward w _ (c .before .before .before .before .item-len .ensures front back it w)
 
 pub touch-spec : {M : Type 1} → statement M
 touch-spec = tie.close (tie.spec item-len-requires add-end rotate-requires same-length returns)

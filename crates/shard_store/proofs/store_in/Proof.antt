@@ -6,7 +6,7 @@ use lib.ListN.{length}
 use Rattle.book.specs.Book.{Row, newItem, withoutOldest}
 use Rattle.shard.proofs.Fields.{count-read}
 use Rattle.shard.proofs.Items.{key-at, item-at, no-item}
-use Rattle.shard_store.proofs.Judging.{items-few}
+use Rattle.arena.specs.Image.{items-few}
 use Rattle.shard_store.proofs.Walk.{some-item, newest-stands, last-of, last-stands}
 use Rattle.shard_store.proofs.Cases.{same-rows, case-update, case-replace, case-new, case-evict}
 use borrow.Author.Needs.{needs}

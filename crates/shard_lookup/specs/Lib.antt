@@ -1,0 +1,4 @@
+pub mod Entries
+pub mod Looked
+pub mod Whole
+pub mod Cases
