@@ -1,1 +1,4 @@
-pub mod Returns
+pub mod Parts
+pub mod Backs
+pub mod Clears
+pub mod Admits

@@ -1,3 +1,5 @@
-pub mod Setup
+pub mod Lent
+pub mod Admit
+pub mod Placed
 pub mod Laws
-pub mod Cases
+pub mod Keeps

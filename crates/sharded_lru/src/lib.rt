@@ -1,30 +1,156 @@
-// The cache's entry points over all shards, on a lent arena. Nothing is asked of the caller: what is wrong is refused by 01's numbers.
-// After sharded_lru.rs and `CacheManager::new`. So far: setup.
+// The cache's operations over all shards, on a lent arena, for the calls that have ruled out causes 1 and 9. After sharded_lru.rs.
+//
+// Every function is lent an arena that is the image of some rows (specs/Lent.antt), as `admit` has found; none tests that again. A contract speaks
+// of whatever rows the arena is the image of: what is left is the image of the book's rows after the event, and the answer is the book's.
+use command_key::CommandKey;
 use config::CheckedConfig;
+use config::Settings;
+use shard_lookup::Looked;
 ghost use mathlib.Core.Path.{_≡_};
-ghost use lib.ListN.{length};
-ghost use Rattle.config.specs.Config.{checked};
-ghost use Rattle.sharded_lru.specs.Setup.{setUp, freshArena};
+ghost use mathlib.Core.Bool.{cond, true};
+ghost use Prim.Native.Nat.{ℕ, _+_, _*_, _≤_};
+ghost use Rattle.config.specs.Limits.{maxArena};
+ghost use Rattle.resp3.specs.Ends.{isValue};
+ghost use Rattle.siphash.specs.Shard.{shardOf};
+ghost use Rattle.book.specs.Book.{Row, stored, noSpace, plus, lookup, store, invalidate, on, invalidateAll, allEntries};
+ghost use Rattle.command_key.specs.Key.{keyBytes, KeyIn};
+ghost use Rattle.shard_lookup.specs.Looked.{Told};
+ghost use Rattle.shard_store.specs.Store.{Storable};
+ghost use Rattle.sharded_lru.specs.Lent.{setupNow, Lent, Arena, effectIn, rowsAfter};
+ghost use Rattle.sharded_lru.specs.Admit.{admitted};
+ghost use Rattle.sharded_lru.specs.Placed.{placedAt, Within};
 
-// What setup comes to.
-pub enum NewCache {
-    // A fresh cache: the epoch that it takes, and the next epoch number.
-    Fresh(u64, u64),
-    // 01's number of the cause; the arena is left as it was.
+// What causes 1 and 9 leave of a call.
+pub enum Admitted {
+    // The arena is an image under these settings.
+    Admits(Settings),
+    // 01's number of the cause.
     Refused(u64),
 }
 
-// Sets a cache up in the arena, whatever the arena held.
-pub fn setup(arena: &mut [u8], size: u64, mode: u64, ttl: u64) -> NewCache
-    ensures answer { λ r. ⌜ r ≡ setUp (checked size mode ttl (length (now (arena .entry)))) ⌝ }
-    ensures bytes { λ _. ⌜ now (arena .exit) ≡ freshArena (checked size mode ttl (length (now (arena .entry)))) (now (arena .entry)) ⌝ }
+// Causes 1 and 9, with which every call on an arena begins.
+pub fn admit(arena: &[u8], size: u64, mode: u64, ttl: u64) -> Admitted
+    ensures { λ r. ⌜ r ≡ admitted size mode ttl (now (arena .entry)) ⌝ }
 {
-    let n = arena.len();
-    match config::check_config(size, mode, ttl, n) {
-        CheckedConfig::Refused => NewCache::Refused(config::BAD_CONFIG),
-        CheckedConfig::Fine(_) => {
-            buffer::fill_zero(arena, 0, n);
-            NewCache::Fresh(0, 1)
+    match config::check_config(size, mode, ttl, arena.len()) {
+        CheckedConfig::Refused => Admitted::Refused(config::BAD_CONFIG),
+        CheckedConfig::Fine(g) => {
+            if arena_check::is_image(arena, g.shards, g.keys, g.bytes) {
+                return Admitted::Admits(g);
+            }
+            Admitted::Refused(config::BAD_ARENA)
         }
     }
+}
+
+// Where the key's shard begins.
+fn shard_start(g: Settings, key: &[u8]) -> usize
+    requires { ⌜ (1 ≤ g .shards) × (g .shards * g .bytes ≤ maxArena) ⌝ }
+    ensures { λ r. ⌜ r ≡ shardOf (now (key .entry)) (g .shards) * g .bytes ⌝ }
+{
+    siphash::shard_of(key, g.shards) * g.bytes
+}
+
+// The answer of a shard of `size` bytes that begins at `start`, with places in the arena.
+fn placed(start: usize, size: usize, found: Looked) -> Looked
+    requires { ⌜ (start + size ≤ maxArena) × Within size found ⌝ }
+    ensures { λ r. ⌜ r ≡ placedAt start found ⌝ }
+{
+    match found {
+        Looked::Hit { from, to } => Looked::Hit {
+            from: start + from,
+            to: start + to,
+        },
+        Looked::Miss(n) => Looked::Miss(n),
+    }
+}
+
+// What `get` would answer; nothing changes, and a hit's bytes are those of the arena as it is.
+pub fn peek(
+    arena: &[u8],
+    g: Settings,
+    key: &[u8],
+    source: &[u8],
+    command: CommandKey,
+    clock: u64,
+    epoch: u64,
+) -> Looked
+    requires { ⌜ Arena g (now arena) × KeyIn (now source) command ⌝ }
+    ensures { λ r. ⌜ ((rows : ℕ → Row) → Lent g (now (arena .entry)) rows → Told (now (arena .entry)) (effectIn (setupNow g) (lookup (now (key .entry)) (keyBytes (now (source .entry)) command) clock epoch) rows) r) ⌝ }
+{
+    let start = shard_start(g, key);
+    let end = start + g.bytes;
+    let found = shard_lookup::peek_in(&arena[start..end], key, source, command, clock, epoch);
+    placed(start, g.bytes, found)
+}
+
+// Looks the command key's value up under the key. A hit's bytes are those of the arena as it is left.
+pub fn get(
+    arena: &mut [u8],
+    g: Settings,
+    key: &[u8],
+    source: &[u8],
+    command: CommandKey,
+    clock: u64,
+    epoch: u64,
+) -> Looked
+    requires { ⌜ Arena g (now arena) × KeyIn (now source) command ⌝ }
+    ensures { λ r. ⌜ ((rows : ℕ → Row) → Lent g (now (arena .entry)) rows → Lent g (now (arena .exit)) (rowsAfter (setupNow g) (on (lookup (now (key .entry)) (keyBytes (now (source .entry)) command) clock epoch)) rows) × Told (now (arena .exit)) (effectIn (setupNow g) (lookup (now (key .entry)) (keyBytes (now (source .entry)) command) clock epoch) rows) r) ⌝ }
+{
+    let start = shard_start(g, key);
+    let end = start + g.bytes;
+    let found = shard_lookup::lookup_in(&mut arena[start..end], key, source, command, clock, epoch);
+    placed(start, g.bytes, found)
+}
+
+// Stores the value: whether it was kept. Where it was not, for lack of space, nothing is changed.
+pub fn insert(
+    arena: &mut [u8],
+    g: Settings,
+    key: &[u8],
+    command: &[u8],
+    value: &[u8],
+    expiry: u64,
+    epoch: u64,
+) -> bool
+    requires { ⌜ Arena g (now arena) × Storable (now key) (now command) (now value) × (isValue (now value) ≡ true) ⌝ }
+    ensures { λ r. ⌜ ((rows : ℕ → Row) → Lent g (now (arena .entry)) rows → Lent g (now (arena .exit)) (rowsAfter (setupNow g) (on (store (now (key .entry)) (now (command .entry)) (now (value .entry)) expiry epoch)) rows) × (cond r stored noSpace ≡ effectIn (setupNow g) (store (now (key .entry)) (now (command .entry)) (now (value .entry)) expiry epoch) rows .answer)) ⌝ }
+{
+    let from = shard_start(g, key);
+    let to = from + g.bytes;
+    shard_store::store_in(
+        &mut arena[from..to],
+        g.keys,
+        key,
+        command,
+        value,
+        expiry,
+        epoch,
+    )
+}
+
+// Drops the key's item, and answers how many entries it had.
+pub fn invalidate(arena: &mut [u8], g: Settings, key: &[u8]) -> usize
+    requires { ⌜ Arena g (now arena) ⌝ }
+    ensures { λ r. ⌜ ((rows : ℕ → Row) → Lent g (now (arena .entry)) rows → Lent g (now (arena .exit)) (rowsAfter (setupNow g) (on (invalidate (now (key .entry)))) rows) × (effectIn (setupNow g) (invalidate (now (key .entry))) rows .adds ≡ plus 0 0 r)) ⌝ }
+{
+    let at = shard_start(g, key);
+    let end = at + g.bytes;
+    shard::invalidate_in(&mut arena[at..end], key)
+}
+
+// Drops every item, and answers how many entries they had.
+pub fn invalidate_all(arena: &mut [u8], g: Settings) -> usize
+    requires { ⌜ Arena g (now arena) ⌝ }
+    ensures { λ r. ⌜ ((rows : ℕ → Row) → Lent g (now (arena .entry)) rows → Lent g (now (arena .exit)) (rowsAfter (setupNow g) invalidateAll rows) × (r ≡ allEntries (g .shards) rows)) ⌝ }
+{
+    let mut i: usize = 0;
+    let mut n: usize = 0;
+    while i < g.shards {
+        let from = i * g.bytes;
+        let to = from + g.bytes;
+        n = n + shard::clear(&mut arena[from..to]);
+        i += 1;
+    }
+    n
 }

@@ -1,5 +1,5 @@
 -- Setup's two ways out, as laws of its definitions. Assumes nothing.
-use mathlib.Core.Path.{_≡_, refl, sym, ap, _∙_, subst}
+use mathlib.Core.Path.{_≡_, refl, sym, ap, _∙_}
 use Prim.Native.Nat.{ℕ, _-_}
 use mathlib.Core.List.{[], append-nil}
 use native.Mathlib.Omega.{arith}
@@ -11,8 +11,8 @@ use Rattle.config.specs.Causes.{badConfig}
 use Rattle.config.specs.declared.CheckedConfig.{CheckedConfig}
 use Rattle.config.specs.declared.CheckedConfig.the-variants.{Fine, Refused as BadConfig}
 use Rattle.config.specs.declared.Settings.{Settings}
-use Rattle.sharded_lru.specs.Setup.{setUp, freshArena}
-use Rattle.sharded_lru.specs.declared.NewCache.the-variants.{Fresh, Refused}
+use Rattle.single_calls.specs.Setup.{setUp, freshArena}
+use Rattle.single_calls.specs.declared.NewCache.the-variants.{Fresh, Refused}
 
 -- what is put over a whole list takes its place
 put-all : (s bs : Bytes) → length s ≡ length bs → put s 0 bs ≡ bs

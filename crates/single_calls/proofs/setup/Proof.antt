@@ -1,9 +1,9 @@
--- `sharded_lru::setup` meets its contract. Assumes nothing.
+-- `single_calls::setup` meets its contract. Assumes nothing.
 use mathlib.Core.Path.{sym, _∙_}
 use borrow.Author.Needs.{needs}
-use Rattle.sharded_lru.proofs.Returns.{refused, set-up}
-use Rattle.sharded_lru.proofs.setup.Statement.{statement}
-use Rattle.sharded_lru.proofs.setup.Tie as tie
+use Rattle.single_calls.proofs.Returns.{refused, set-up}
+use Rattle.single_calls.proofs.setup.Statement.{statement}
+use Rattle.single_calls.proofs.setup.Tie as tie
 
 check-config-requires : tie.Need-check-config-requires
 check-config-requires c κs = search needs

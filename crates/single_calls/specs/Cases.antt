@@ -1,8 +1,8 @@
 -- Setup at 01's borders, computed. Assumes nothing.
 use mathlib.Core.Path.{_≡_, refl}
 use Rattle.config.specs.Config.{checked, refused, settingsOf}
-use Rattle.sharded_lru.specs.declared.NewCache.the-variants.{Fresh, Refused}
-use Rattle.sharded_lru.specs.Setup.{setUp}
+use Rattle.single_calls.specs.declared.NewCache.the-variants.{Fresh, Refused}
+use Rattle.single_calls.specs.Setup.{setUp}
 
 -- a size of 65,536 with 64 bytes a shard is set up, with epoch 0 and next number 1
 pub largest-size : setUp (checked 65536 1 0 2048) ≡ Fresh 0 1

@@ -4,8 +4,8 @@ use lib.ListN.{length, replicate}
 use Rattle.config.specs.Causes.{badConfig}
 use Rattle.config.specs.declared.CheckedConfig.{CheckedConfig}
 use Rattle.config.specs.declared.CheckedConfig.the-variants.{Fine, Refused as BadConfig}
-use Rattle.sharded_lru.specs.declared.NewCache.{NewCache}
-use Rattle.sharded_lru.specs.declared.NewCache.the-variants.{Fresh, Refused}
+use Rattle.single_calls.specs.declared.NewCache.{NewCache}
+use Rattle.single_calls.specs.declared.NewCache.the-variants.{Fresh, Refused}
 
 -- "Setup takes epoch 0 and leaves 1 as the next number"; cause 1 is its only refusal
 abbrev pub setUp : CheckedConfig → NewCache

@@ -1,0 +1,171 @@
+-- The ways through a single call, as laws of its definition: refused, or the book's call on the arena that it left. Assumes what `Lent` says of the arena.
+use mathlib.Core.Path.{_≡_, refl, sym, ap, _∙_, subst}
+use Prim.Native.Nat.{ℕ}
+use native.Mathlib.Omega.{arith}
+use mathlib.Core.Bool.{Bool, true, false, cond}
+use mathlib.Core.Option.{Option, none, some}
+use lib.ListN.{length}
+use Rattle.buffer.specs.Same.{Bytes}
+use Rattle.config.specs.Causes.{badConfig, badArena, tooLong, badReply, noSpace}
+use Rattle.config.specs.Config.{checked}
+use Rattle.config.specs.declared.Settings.{Settings}
+use Rattle.config.specs.declared.CheckedConfig.{CheckedConfig}
+use Rattle.config.specs.declared.CheckedConfig.the-variants.{Fine, Refused as BadConfig}
+use Rattle.statistics.specs.declared.Statistics.{Statistics}
+use Rattle.resp3.specs.Ends.{isValue}
+use Rattle.book.specs.Book.{Setup, Row, Counts, plus, count, Answer, stored, noSpace as spaceless, invalidated, Keyed, lookup, on, put, effect, after, afterAll, answerTo}
+use Rattle.book.specs.Calls.{ons, call-defs}
+use Rattle.arena.specs.Layout.{encode}
+use Rattle.arena.specs.Decode.{readArena, isImage, decode}
+use Rattle.arena.specs.Sequence.{Held, lend}
+use Rattle.command_key.specs.Key.{keyBytes}
+use Rattle.shard_lookup.specs.Looked.{Told}
+use Rattle.shard_lookup.specs.declared.Looked.{Looked}
+use Rattle.shard_lookup.specs.declared.Looked.the-variants.{Hit as Got, Miss as Missed}
+use Rattle.shard_lookup.specs.Whole.{wholeKey, whole-bytes}
+use Rattle.sharded_lru.specs.Lent.{setupNow, Lent, effectIn, rowsAfter}
+use Rattle.sharded_lru.specs.Admit.{admittedBy, admitted, Entered}
+use Rattle.sharded_lru.specs.declared.Admitted.the-variants.{Admits, Refused as NotAdmitted}
+use Rattle.single_calls.specs.declared.Answered.the-variants.{Done, Refused}
+use Rattle.single_calls.specs.declared.Found.the-variants.{Denied}
+use Rattle.single_calls.specs.Single.{Return, refusedAs, overlong, wrongBytes, numberOf, servedBy, calledOn, imaged, configured, singleCall}
+use Rattle.single_calls.specs.Answers.{countsOf, holding, Left, LookupLeft, InvalidationLeft, moreOf, lookedUp}
+
+-- ---- causes 1 and 9
+
+no-rows : (p : Setup) (q : Keyed) (h : Held) → imaged p none q h ≡ refusedAs badArena h
+unfolding imaged
+no-rows p q h = refl
+
+module _ (size mode ttl : ℕ) (q : Keyed) (s : Bytes) where
+  -- a call that is not admitted
+  pub not-admitted : (n : ℕ) (lent : Counts) (next : ℕ) → admitted size mode ttl s ≡ NotAdmitted n
+      → singleCall size mode ttl q (holding s lent next) ≡ refusedAs n (holding s lent next)
+  unfolding admitted singleCall configured
+  not-admitted n lent next = go (checked size mode ttl (length s))
+    where
+      judge : (g : Settings) (b : Bool) → isImage isValue (setupNow g) s ≡ b → cond b (Admits g) (NotAdmitted badArena) ≡ NotAdmitted n
+          → imaged (setupNow g) (decode isValue (setupNow g) s) q (holding s lent next) ≡ refusedAs n (holding s lent next)
+      judge g true e r = let z : _≡_ {A = ℕ} 0 1 = cc in absurd (omega arith)
+      judge g false e r =
+          let m : badArena ≡ n = cc in
+          let d : decode isValue (setupNow g) s ≡ none = unfold decode in rw e in
+          ap (λ (o : Option (ℕ → Row)). imaged (setupNow g) o q (holding s lent next)) d ∙ no-rows (setupNow g) q (holding s lent next)
+          ∙ ap (λ (k : ℕ). refusedAs k (holding s lent next)) m
+
+      go : (c : CheckedConfig) → admittedBy c s ≡ NotAdmitted n → configured c q (holding s lent next) ≡ refusedAs n (holding s lent next)
+      go BadConfig r = let m : badConfig ≡ n = cc in ap (λ (k : ℕ). refusedAs k (holding s lent next)) m
+      go (Fine g) r = judge g (isImage isValue (setupNow g) s) refl r
+
+  -- one that is
+  pub is-admitted : (g : Settings) (lent : Counts) (next : ℕ) → Entered size mode ttl s g
+      → singleCall size mode ttl q (holding s lent next) ≡ imaged (setupNow g) (some (readArena (setupNow g) s)) q (holding s lent next)
+  unfolding singleCall configured
+  is-admitted g lent next w = rw (w .fine, w .read)
+
+-- ---- causes 3 and 6
+
+module _ (p : Setup) (rows : ℕ → Row) (q : Keyed) (h : Held) where
+  pub too-long : overlong q ≡ true → imaged p (some rows) q h ≡ refusedAs tooLong h
+  unfolding imaged
+  too-long e = rw e
+
+  pub bad-bytes : overlong q ≡ false → wrongBytes q ≡ true → imaged p (some rows) q h ≡ refusedAs badReply h
+  unfolding imaged
+  bad-bytes e f = rw (e, f)
+
+  pub called : overlong q ≡ false → wrongBytes q ≡ false → imaged p (some rows) q h ≡ calledOn p rows q h
+  unfolding imaged
+  called e f = rw (e, f)
+
+-- ---- refused, everything is left as it was
+
+module _ (d : Return) (n : ℕ) (s : Bytes) (lent : Counts) (next : ℕ) (e : d ≡ refusedAs n (holding s lent next)) where
+  pub left-refused : Left d s (Refused n)
+  left-refused = rw e (record { cause = refl; arena = refl })
+
+pub lookup-refused : (d : Return) (n : ℕ) (s : Bytes) (c : Statistics) (next : ℕ) → d ≡ refusedAs n (holding s (countsOf c) next)
+    → LookupLeft d s (record { found = Denied n; counts = c })
+lookup-refused d n s c next e = rw e (record { cause = refl; value = refl; within = tt; arena = refl; counts = refl })
+
+pub invalidation-refused : (d : Return) (n : ℕ) (s : Bytes) (c : Statistics) (next : ℕ) → d ≡ refusedAs n (holding s (countsOf c) next)
+    → InvalidationLeft d s (record { answer = Refused n; counts = c })
+invalidation-refused d n s c next e = rw e (record { cause = refl; arena = refl; counts = refl })
+
+-- ---- the book's call
+
+-- what the counts become is what the book counts
+more-counts : (c : Statistics) (h m n : ℕ) → countsOf (moreOf c h m n) ≡ count (countsOf c) (plus h m n)
+unfolding count
+more-counts c h m n = refl
+
+-- a lookup of a command key that is all of its source
+pub whole-get : (g : Settings) (u : Bytes) (rows : ℕ → Row) (k c : Bytes) (t e : ℕ) (r : Looked)
+    → Lent g u (rowsAfter (setupNow g) (on (lookup k (keyBytes c (wholeKey c)) t e)) rows) × Told u (effectIn (setupNow g) (lookup k (keyBytes c (wholeKey c)) t e) rows) r
+    → Lent g u (rowsAfter (setupNow g) (on (lookup k c t e)) rows) × Told u (effectIn (setupNow g) (lookup k c t e) rows) r
+whole-get g u rows k c t e r w =
+    subst (λ (z : Bytes). Lent g u (rowsAfter (setupNow g) (on (lookup k z t e)) rows) × Told u (effectIn (setupNow g) (lookup k z t e) rows) r) (whole-bytes c) w
+
+-- a call that neither 3 nor 6 refuses found the arena s and left u
+module _ (g : Settings) (s u : Bytes) (rows : ℕ → Row) (q : Keyed) (next : ℕ) (n : length u ≡ length s) (w : Lent g u (rowsAfter (setupNow g) (on q) rows))
+    (e : overlong q ≡ false) (f : wrongBytes q ≡ false) where
+  abbrev here : Counts → Return
+  here lent = imaged (setupNow g) (some rows) q (holding s lent next)
+
+  arena-is : (lent : Counts) → u ≡ here lent .held .arena
+  unfolding calledOn lend call-defs ons afterAll after put effect rowsAfter
+  arena-is lent =
+      sym (w .image .bytes) ∙ ap (λ (m : ℕ). encode (setupNow g) m (rowsAfter (setupNow g) (on q) rows)) n
+      ∙ ap (λ (r : Return). r .held .arena) (sym (called (setupNow g) rows q (holding s lent next) e f))
+
+  counts-are : (lent more : Counts) → effectIn (setupNow g) q rows .adds ≡ more → count lent more ≡ here lent .held .counts
+  unfolding calledOn lend call-defs ons afterAll after put effect
+  counts-are lent more a =
+      ap (count lent) (sym a) ∙ ap (λ (r : Return). r .held .counts) (sym (called (setupNow g) rows q (holding s lent next) e f))
+
+  cause-is : (lent : Counts) (a : Answer) → effectIn (setupNow g) q rows .answer ≡ a → numberOf a ≡ here lent .cause
+  unfolding calledOn answerTo effect
+  cause-is lent a b = ap numberOf (sym b) ∙ ap (λ (r : Return). r .cause) (sym (called (setupNow g) rows q (holding s lent next) e f))
+
+  value-is : (lent : Counts) (a : Answer) → effectIn (setupNow g) q rows .answer ≡ a → servedBy a ≡ here lent .value
+  unfolding calledOn answerTo effect
+  value-is lent a b = ap servedBy (sym b) ∙ ap (λ (r : Return). r .value) (sym (called (setupNow g) rows q (holding s lent next) e f))
+
+  -- a store, whether its value was kept
+  pub store-left : (lent : Counts) (b kept : Bool) → b ≡ kept → cond b stored spaceless ≡ effectIn (setupNow g) q rows .answer
+      → Left (here lent) u (cond kept Done (Refused noSpace))
+  unfolding numberOf
+  store-left lent b true i a = record { cause = cause-is lent stored (sym (rw i at a)); arena = arena-is lent }
+  store-left lent b false i a = record { cause = cause-is lent spaceless (sym (rw i at a)); arena = arena-is lent }
+
+  module _ (c : Statistics) where
+    -- a lookup, by what the shards answered
+    pub lookup-left : (r : Looked) → Told u (effectIn (setupNow g) q rows) r → LookupLeft (here (countsOf c)) u (lookedUp c r)
+    unfolding numberOf servedBy
+    lookup-left (Got from to) t =
+        record {
+          cause = cause-is (countsOf c) _ (t .2);
+          value = value-is (countsOf c) _ (t .2);
+          within = (t .0, t .1);
+          arena = arena-is (countsOf c);
+          counts = more-counts c 1 0 0 ∙ counts-are (countsOf c) _ (t .3);
+        }
+    lookup-left (Missed m) t =
+        record {
+          cause = cause-is (countsOf c) _ (t .0);
+          value = value-is (countsOf c) _ (t .0);
+          within = tt;
+          arena = arena-is (countsOf c);
+          counts = more-counts c 0 1 m ∙ counts-are (countsOf c) _ (t .1);
+        }
+
+    -- an invalidation, by the entries dropped
+    pub invalidation-left : (m : ℕ) → effectIn (setupNow g) q rows .answer ≡ invalidated → effectIn (setupNow g) q rows .adds ≡ plus 0 0 m
+        → InvalidationLeft (here (countsOf c)) u (record { answer = Done; counts = moreOf c 0 0 m })
+    unfolding numberOf
+    invalidation-left m a b =
+        record {
+          cause = cause-is (countsOf c) _ a;
+          arena = arena-is (countsOf c);
+          counts = more-counts c 0 0 m ∙ counts-are (countsOf c) _ b;
+        }

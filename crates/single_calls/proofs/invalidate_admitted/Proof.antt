@@ -1,0 +1,48 @@
+-- `single_calls::invalidate_admitted` meets its contract: one law for each way out. Assumes nothing.
+use mathlib.Core.Path.{refl, sym, _∙_}
+use Rattle.book.specs.Book.{effectOn}
+use Rattle.single_calls.specs.Single.{overlong, wrongBytes}
+use Rattle.single_calls.proofs.Ways.{too-long, invalidation-refused, invalidation-left}
+use borrow.Author.Needs.{needs}
+use Rattle.single_calls.proofs.invalidate_admitted.Statement.{statement}
+use Rattle.single_calls.proofs.invalidate_admitted.Tie as tie
+use Rattle.single_calls.proofs.invalidate_admitted.Reads as reads
+use Rattle.single_calls.proofs.invalidate_admitted.Lts as lts
+use Rattle.sharded_lru.proofs.invalidate.Reads as invalidate-reads
+use Rattle.single_calls.proofs.more.Reads as more-reads
+use Rattle.single_calls.proofs.too_long.Reads as too-long-reads
+
+-- src/lib.rt:209:8
+too-long-requires : tie.Need-too-long-requires
+too-long-requires c κs = search needs
+
+-- src/lib.rt:210:9
+returns : tie.Need-returns
+unfolding overlong
+returns c rows next w = invalidation-refused _ _ _ _ _ (too-long _ rows _ _ (sym (c .before .too-long .ensures) ∙ c .if1 .taken))
+
+-- src/lib.rt:215:9
+invalidate-requires : tie.Need-invalidate-requires
+invalidate-requires c κs = search needs
+
+-- src/lib.rt:218:17
+more-requires : tie.Need-more-requires
+more-requires c κs = search needs
+
+-- src/lib.rt:205:1
+same-length : tie.Need-same-length
+same-length c = search needs
+
+-- src/lib.rt:205:1
+returns-2 : tie.Need-returns-2
+unfolding overlong wrongBytes effectOn
+returns-2 c rows next w =
+    let a = c .before .before .before .before .before .before .before .before .before .args in
+    let r = c .before .before .before .invalidate .ensures rows w in
+    rw (c .more .ensures)
+    (invalidation-left _ _ _ rows _ next (c .before .before .before .invalidate .kept .0) (r .0) (sym (c .before .before .before .before .before .before .too-long .ensures) ∙ c .before .before .before .before .before .if1 .left) refl (a .counts) (c .before .before .before .invalidate .result) refl (r .1))
+
+pub invalidate-admitted-spec : {M : Type 1} → statement M
+invalidate-admitted-spec =
+    tie.close
+    (tie.spec too-long-requires returns invalidate-requires more-requires same-length returns-2)

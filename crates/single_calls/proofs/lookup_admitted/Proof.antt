@@ -1,0 +1,48 @@
+-- `single_calls::lookup_admitted` meets its contract: one law for each way out. Assumes nothing.
+use mathlib.Core.Path.{refl, sym, _∙_}
+use Rattle.shard_lookup.specs.Whole.{whole-in}
+use Rattle.single_calls.specs.Single.{overlong, wrongBytes}
+use Rattle.single_calls.proofs.Ways.{too-long, lookup-refused, whole-get, lookup-left}
+use borrow.Author.Needs.{needs}
+use Rattle.single_calls.proofs.lookup_admitted.Statement.{statement}
+use Rattle.single_calls.proofs.lookup_admitted.Tie as tie
+use Rattle.single_calls.proofs.lookup_admitted.Reads as reads
+use Rattle.single_calls.proofs.lookup_admitted.Lts as lts
+use Rattle.sharded_lru.proofs.get.Reads as get-reads
+use Rattle.single_calls.proofs.counted.Reads as counted-reads
+use Rattle.single_calls.proofs.too_long.Reads as too-long-reads
+
+-- src/lib.rt:109:8
+too-long-requires : tie.Need-too-long-requires
+too-long-requires c κs = search needs
+
+-- src/lib.rt:110:9
+returns : tie.Need-returns
+unfolding overlong
+returns c rows next w = lookup-refused _ _ _ _ _ (too-long _ rows _ _ (sym (c .before .too-long .ensures) ∙ c .if1 .taken))
+
+-- src/lib.rt:116:9
+get-requires : tie.Need-get-requires
+get-requires c κs = (c .before .before .before .before .before .before .pre, whole-in _)
+
+-- src/lib.rt:117:5
+counted-requires : tie.Need-counted-requires
+counted-requires c κs = search needs
+
+-- src/lib.rt:96:1
+same-length : tie.Need-same-length
+same-length c = search needs
+
+-- src/lib.rt:96:1
+returns-2 : tie.Need-returns-2
+unfolding overlong wrongBytes
+returns-2 c rows next w =
+    let a = c .before .before .before .before .before .before .before .before .before .before .args in
+    let r = whole-get _ _ rows _ (a .command .now) _ _ (c .before .before .before .get .result) (c .before .before .before .get .ensures rows w) in
+    rw (c .counted .ensures)
+    (lookup-left _ _ _ rows _ next (c .before .before .before .get .kept .0) (r .0) (sym (c .before .before .before .before .before .before .too-long .ensures) ∙ c .before .before .before .before .before .if1 .left) refl (a .counts) (c .before .before .before .get .result) (r .1))
+
+pub lookup-admitted-spec : {M : Type 1} → statement M
+lookup-admitted-spec =
+    tie.close
+    (tie.spec too-long-requires returns get-requires counted-requires same-length returns-2)

@@ -1,0 +1,79 @@
+-- What the answers of this crate's functions stand for: 01's number and values for every case. Assumes nothing: these are definitions.
+use mathlib.Core.Path.{_≡_}
+use Prim.Native.Nat.{ℕ, _-_, _≤_}
+use mathlib.Core.Option.{Option, none, some}
+use lib.ListN.{length}
+use Rattle.buffer.specs.Same.{Bytes}
+use Rattle.buffer.specs.Part.{part}
+use Rattle.statistics.specs.Counts.{moreHit, moreMiss, moreInvalidate}
+use Rattle.statistics.specs.declared.Statistics.{Statistics}
+use Rattle.book.specs.Book.{Counts}
+use Rattle.arena.specs.Sequence.{Held}
+use Rattle.shard_lookup.specs.declared.Looked.{Looked}
+use Rattle.shard_lookup.specs.declared.Looked.the-variants.{Hit as Got, Miss as Missed}
+use Rattle.single_calls.specs.declared.Answered.{Answered}
+use Rattle.single_calls.specs.declared.Answered.the-variants.{Done, Refused}
+use Rattle.single_calls.specs.declared.Found.{Found}
+use Rattle.single_calls.specs.declared.Found.the-variants.{Hit, Miss, Denied}
+use Rattle.single_calls.specs.declared.LookedUp.{LookedUp}
+use Rattle.single_calls.specs.declared.Invalidated.{Invalidated}
+use Rattle.single_calls.specs.Single.{noCause, Return}
+
+-- the three counts as the book has them
+abbrev pub countsOf : Statistics → Counts
+countsOf s = record { hits = s .hit; misses = s .miss; invalidates = s .invalidate }
+
+-- what the caller holds: arena, counts and next number
+abbrev pub holding : Bytes → Counts → ℕ → Held
+holding s c n = record { arena = s; counts = c; next = n }
+
+-- 01's number of a store's or an invalidation's answer
+abbrev pub answerNumber : Answered → ℕ
+answerNumber Done = noCause
+answerNumber (Refused n) = n
+
+-- a store or an invalidation answered `r` and left the arena `s`, as the call's return says
+pub record Left (d : Return) (s : Bytes) (r : Answered) : Type 0 where
+  pub cause : answerNumber r ≡ d .cause
+  pub arena : s ≡ d .held .arena
+
+-- 01's number of a lookup's answer
+abbrev pub foundNumber : Found → ℕ
+foundNumber (Hit from to) = noCause
+foundNumber Miss = noCause
+foundNumber (Denied n) = n
+
+-- the value that it serves: the bytes of the arena s from `from` up to `to`
+abbrev pub foundValue : Bytes → Found → Option Bytes
+foundValue s (Hit from to) = some (part s from (to - from))
+foundValue s Miss = none
+foundValue s (Denied n) = none
+
+-- the counts with so many more of each, wrapping: the book's `count`
+abbrev pub moreOf : Statistics → ℕ → ℕ → ℕ → Statistics
+moreOf s hits misses invalidates = moreInvalidate (moreMiss (moreHit s hits) misses) invalidates
+
+-- what a lookup returns where the shards answered `found`: the answer, and the counts with a hit more, or a miss and the entries dropped
+abbrev pub lookedUp : Statistics → Looked → LookedUp
+lookedUp s (Got from to) = record { found = Hit from to; counts = moreOf s 1 0 0 }
+lookedUp s (Missed n) = record { found = Miss; counts = moreOf s 0 1 n }
+
+-- its places are within n bytes
+abbrev pub FoundIn : ℕ → Found → Type 0
+FoundIn n (Hit from to) = (from ≤ to) × (to ≤ n)
+FoundIn n Miss = Unit {0}
+FoundIn n (Denied m) = Unit {0}
+
+-- a lookup answered `r` and left the arena `s`, as the call's return says
+pub record LookupLeft (d : Return) (s : Bytes) (r : LookedUp) : Type 0 where
+  pub cause : foundNumber (r .found) ≡ d .cause
+  pub value : foundValue s (r .found) ≡ d .value
+  pub within : FoundIn (length s) (r .found)
+  pub arena : s ≡ d .held .arena
+  pub counts : countsOf (r .counts) ≡ d .held .counts
+
+-- so for an invalidation, which returns the counts too
+pub record InvalidationLeft (d : Return) (s : Bytes) (r : Invalidated) : Type 0 where
+  pub cause : answerNumber (r .answer) ≡ d .cause
+  pub arena : s ≡ d .held .arena
+  pub counts : countsOf (r .counts) ≡ d .held .counts
