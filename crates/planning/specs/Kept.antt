@@ -19,12 +19,12 @@ use Rattle.resp3.specs.Value.{IsValue}
 use Rattle.call_record.specs.Record.{Argument, simple, cursor, Command, Record, transaction, ValidArgument, ValidCommand, ValidRecord, encArgument, encCommand, encRecord}
 use Rattle.book.specs.Book.{Answer, hit, miss, stored, noSpace, invalidated, number}
 use Rattle.book.specs.Calls.{Wanted}
-use Rattle.book.specs.Tests.{leb-no}
+use borrow.Author.Tests.{leb-false}
 use Rattle.planning.specs.Ask.{Reach, skipped, stopped, named, pastEnd, reach, clientExpiry, anyLate, simples, afterName, butLast, lastOnly, askOne, askBy, askFrom, severalKeys, ask}
 use Rattle.planning.specs.Outcome.{Place, filled, waiting, item, joined, wholeKey, partKeys, wants, placeBy, place, places, servedValues, singleItem, multipleItem, missing, outcome, outcomes}
 use Rattle.planning.specs.Plan.{endOfSeveral, valueNodes, placeNodes, servedNodes, missingNodes, nodesOf, nodes, planOf}
 use Rattle.planning.specs.Planning.{plannedBy, plannedFrom}
-use Rattle.planning.specs.Rules.{GoodWanted, GoodNode, IsPlan}
+use Rattle.planning.specs.Rules.{GoodWanted, GoodNode, GoodPlan, IsPlan}
 use Rattle.planning.specs.Small.{Short, after-short, after-count, but-last-short, but-last-count, last-short, joined-short, parts-good, parts-count}
 use Rattle.planning.specs.Order.{in-order}
 
@@ -186,7 +186,7 @@ unfolding askFrom pastEnd outcome nodesOf GoodNode
 reached-nodes c said x skipped e h v b = (tt, tt)
 reached-nodes c said x stopped e h v b = (tt, tt)
 reached-nodes c said x (named n) e h v b =
-    named-nodes c said h x (leb-no (2 ^ 64) x e) (multiKey n) n (v .args) (v .count) (key-fits c b)
+    named-nodes c said h x (leb-false (2 ^ 64) x e) (multiKey n) n (v .args) (v .count) (key-fits c b)
 
 -- of any command
 asked-nodes : (s : Settings) (t : ℕ) (c : Command) (said : List Answer) → pastEnd (reach (s .mode) c) (clientExpiry s t c) ≡ false → All GoodAnswer said
@@ -216,23 +216,23 @@ outcomes-count s t [] said = refl
 outcomes-count s t (c ∷ cs) said =
     let i = outcomes-count s t cs (drop (length (wants c (ask s t c))) said) in omega arith
 
--- of a valid record of at most 16 MiB, of which no client expiry is past 64 bits, on a cache that holds values, planning writes a plan
-pub keeps-rules : (s : Settings) (t : ℕ) (r : Record) (said : List Answer) → ValidRecord r → length (encRecord r) ≤ maxBytes → anyLate s t (r .commands) ≡ false
-    → All GoodAnswer said → IsPlan (plannedFrom s t r said .plan)
-unfolding plannedFrom plannedBy planOf encRecord
-keeps-rules s t r said v b e h =
-    let rs = outcomes s t (r .commands) said in
+-- of a valid record of at most 16 MiB, of which no client expiry is past 64 bits, on a cache that holds values, planning's plan is a good one
+pub good-plan : (s : Settings) (t : ℕ) (r : Record) (said : List Answer) → ValidRecord r → length (encRecord r) ≤ maxBytes → anyLate s t (r .commands) ≡ false
+    → All GoodAnswer said → GoodPlan (planOf (transaction r) (outcomes s t (r .commands) said))
+unfolding planOf encRecord
+good-plan s t r said v b e h =
     let n = outcomes-count s t (r .commands) said in
     let k = v .count in
     let j = length-append (le16 (length (r .commands))) (encAll encCommand (r .commands)) in
     let i = length-append (le16 1) (r .flags ∷ (le16 (length (r .commands)) ++ encAll encCommand (r .commands))) in
     record {
-      plan = planOf (transaction r) rs;
-      good =
-          record {
-            count = omega arith;
-            each = all-nodes s t (r .commands) said (v .commands) (omega arith) e h;
-            order = in-order rs;
-          };
-      is = refl;
+      count = omega arith;
+      each = all-nodes s t (r .commands) said (v .commands) (omega arith) e h;
+      order = in-order (outcomes s t (r .commands) said);
     }
+
+-- so what it writes is a plan
+pub keeps-rules : (s : Settings) (t : ℕ) (r : Record) (said : List Answer) → ValidRecord r → length (encRecord r) ≤ maxBytes → anyLate s t (r .commands) ≡ false
+    → All GoodAnswer said → IsPlan (plannedFrom s t r said .plan)
+unfolding plannedFrom plannedBy
+keeps-rules s t r said v b e h = record { plan = planOf (transaction r) (outcomes s t (r .commands) said); good = good-plan s t r said v b e h; is = refl }

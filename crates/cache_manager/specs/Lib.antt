@@ -1,0 +1,7 @@
+pub mod Pipeline
+pub mod Cases
+pub mod Planned
+pub mod Fit
+pub mod Passed
+pub mod Records
+pub mod Call

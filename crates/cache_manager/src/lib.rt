@@ -1,0 +1,229 @@
+// Planning: `get_cached_pipeline` (cache_manager.rs), on a lent arena, a call record and two lent buffers. Nothing is asked of the caller: what is wrong is
+// refused by 01's numbers. specs/Pipeline.antt says what is returned and left.
+use call_record::Checked;
+use config::Settings;
+use cursor::Commands;
+use dry_pass::Room;
+use plan_pass::Progress;
+use sharded_lru::Admitted;
+use statistics::Statistics;
+ghost use mathlib.Core.Path.{_≡_};
+ghost use mathlib.Core.Bool.{_||_};
+ghost use Prim.Native.Nat.{ℕ, _+_, _^_, _≤_, _<_};
+ghost use lib.Dec.{ltb};
+ghost use lib.ListN.{length};
+ghost use Rattle.config.specs.Limits.{maxBytes, maxCommands};
+ghost use Rattle.call_record.specs.Check.{checkDef};
+ghost use Rattle.cursor.specs.At.{commandsOf, recordAt};
+ghost use Rattle.book.specs.Book.{Row, Book};
+ghost use Rattle.sharded_lru.specs.Lent.{setupNow, Lent, Arena};
+ghost use Rattle.look_up.specs.Looks.{Keeps};
+ghost use Rattle.dry_pass.specs.Dry.{Planable};
+ghost use Rattle.call_record.specs.declared.Checked.the-variants.{Fine};
+ghost use Rattle.cache_manager.specs.declared.Pipelined.the-variants.{Refused};
+ghost use Rattle.cache_manager.specs.Pipeline.{planCall, recorded, admittedTo, holding, Leaves};
+ghost use Rattle.cache_manager.specs.Planned.{planBytes, sendBytes};
+ghost use Rattle.cache_manager.specs.Passed.{writtenOf, Passed};
+
+// What planning wrote: so many bytes to the plan buffer and to the send buffer; and how many responses are skipped and then taken.
+pub struct Written {
+    pub plan: usize,
+    pub send: usize,
+    pub offset: usize,
+    pub count: usize,
+}
+
+// What planning comes to.
+pub enum Pipelined {
+    Done(Written),
+    // The call record is wrong at this offset.
+    BadRecord(usize),
+    // 01's number of another cause; everything is left as it was.
+    Refused(u64),
+}
+
+// What planning returns: with the counts, which it was given by value.
+pub struct CachedPipeline {
+    pub answer: Pipelined,
+    pub counts: Statistics,
+}
+
+// The response counts: (sent + 1, 1) for a transaction, else (0, sent).
+fn written_of(transaction: bool, plan: usize, send: usize, sent: usize) -> Written
+    requires { ⌜ sent < 2 ^ 63 ⌝ }
+    ensures { λ r. ⌜ r ≡ writtenOf transaction plan send sent ⌝ }
+{
+    if transaction {
+        Written {
+            plan,
+            send,
+            offset: sent + 1,
+            count: 1,
+        }
+    } else {
+        Written {
+            plan,
+            send,
+            offset: 0,
+            count: sent,
+        }
+    }
+}
+
+// Cause 5: whether a buffer of so many bytes is short.
+fn is_short(
+    bytes: &[u8],
+    k: Commands,
+    transaction: bool,
+    arena: &[u8],
+    g: Settings,
+    clock: u64,
+    epoch: u64,
+    plan: usize,
+    send: usize,
+) -> bool
+    requires { ⌜ Planable g clock (now bytes) (k .left) (k .at) × (length (now bytes) ≤ maxBytes) × Arena g (now arena) ⌝ }
+    ensures { λ r. ⌜ ((rows : ℕ → Row) → Lent g (now (arena .entry)) rows → r ≡ (ltb plan (length (planBytes (setupNow g) rows clock epoch g transaction (commandsOf (now (bytes .entry)) k))) || ltb send (length (sendBytes (setupNow g) rows clock epoch g transaction (commandsOf (now (bytes .entry)) k))))) ⌝ }
+{
+    let whole = Room {
+        left: plan,
+        short: false,
+    };
+    let p = dry_pass::spend(whole, 8);
+    let empty = Room {
+        left: send,
+        short: false,
+    };
+    let q = dry_pass::spend(empty, pipeline::wrap_len(transaction));
+    dry_pass::dry_pass(bytes, k, arena, g, clock, epoch, p, q)
+}
+
+// Both buffers written, where there is room, and the lookups done.
+fn write_pipeline(
+    arena: &mut [u8],
+    plan: &mut [u8],
+    send: &mut [u8],
+    bytes: &[u8],
+    k: Commands,
+    transaction: bool,
+    g: Settings,
+    clock: u64,
+    epoch: u64,
+    counts: Statistics,
+) -> CachedPipeline
+    requires { ⌜ Planable g clock (now bytes) (k .left) (k .at) × (length (now bytes) ≤ maxBytes) × Arena g (now arena) × (k .left ≤ maxCommands) × ((rows : ℕ → Row) → Lent g (now arena) rows → (length (planBytes (setupNow g) rows clock epoch g transaction (commandsOf (now bytes) k)) ≤ length (now plan)) × (length (sendBytes (setupNow g) rows clock epoch g transaction (commandsOf (now bytes) k)) ≤ length (now send))) ⌝ }
+    ensures { λ r. ⌜ ((bk : Book) → Keeps g (now (arena .entry)) counts bk → Passed g clock epoch transaction (commandsOf (now (bytes .entry)) k) bk (now (plan .entry)) (now (send .entry)) (now (arena .exit)) (now (plan .exit)) (now (send .exit)) r) ⌝ }
+{
+    let n = k.left;
+    let to = plan_write::write_plan_head(plan, transaction, n as u32);
+    let from = pipeline::write_start(send, 0, transaction);
+    let x = Progress {
+        to,
+        from,
+        sent: 0,
+        counts,
+    };
+    let y = plan_pass::plan_commands(arena, plan, send, bytes, k, g, clock, epoch, x);
+    let end = pipeline::write_end(send, y.from, transaction);
+    let after = y.counts;
+    let written = written_of(transaction, y.to, end, y.sent);
+    CachedPipeline {
+        answer: Pipelined::Done(written),
+        counts: after,
+    }
+}
+
+// Planning refused by a cause that leaves everything as it was.
+fn refused(cause: u64, counts: Statistics) -> CachedPipeline
+    ensures { λ r. ⌜ (r .answer ≡ Refused cause) × (r .counts ≡ counts) ⌝ }
+{
+    CachedPipeline {
+        answer: Pipelined::Refused(cause),
+        counts,
+    }
+}
+
+// Planning a call record that is one.
+fn plan_record(
+    arena: &mut [u8],
+    plan: &mut [u8],
+    send: &mut [u8],
+    bytes: &[u8],
+    g: Settings,
+    clock: u64,
+    epoch: u64,
+    counts: Statistics,
+) -> CachedPipeline
+    requires { ⌜ Arena g (now arena) × (length (now bytes) ≤ maxBytes) × (checkDef (now bytes) ≡ Fine) ⌝ }
+    ensures { λ r. ⌜ ((rows : ℕ → Row) (next : ℕ) → Lent g (now (arena .entry)) rows → Leaves (recorded clock epoch (now (bytes .entry)) (now (plan .entry)) (now (send .entry)) (holding (now (arena .entry)) counts next) g rows (recordAt (now (bytes .entry)))) (now (arena .exit)) (now (plan .exit)) (now (send .exit)) r) ⌝ }
+{
+    let k = cursor::commands_of(bytes);
+    if ask::any_late(bytes, k, g, clock) {
+        return refused(config::LATE_EXPIRY, counts);
+    }
+    let transaction = cursor::is_transaction(bytes);
+    let n = plan.len();
+    let m = send.len();
+    if is_short(bytes, k, transaction, arena, g, clock, epoch, n, m) {
+        return refused(config::SHORT_BUFFER, counts);
+    }
+    write_pipeline(
+        arena,
+        plan,
+        send,
+        bytes,
+        k,
+        transaction,
+        g,
+        clock,
+        epoch,
+        counts,
+    )
+}
+
+// Planning that causes 1 and 9 admitted.
+fn plan_admitted(
+    arena: &mut [u8],
+    plan: &mut [u8],
+    send: &mut [u8],
+    bytes: &[u8],
+    g: Settings,
+    clock: u64,
+    epoch: u64,
+    counts: Statistics,
+) -> CachedPipeline
+    requires { ⌜ Arena g (now arena) ⌝ }
+    ensures { λ r. ⌜ ((rows : ℕ → Row) (next : ℕ) → Lent g (now (arena .entry)) rows → Leaves (admittedTo clock epoch (now (bytes .entry)) (now (plan .entry)) (now (send .entry)) (holding (now (arena .entry)) counts next) g rows) (now (arena .exit)) (now (plan .exit)) (now (send .exit)) r) ⌝ }
+{
+    if config::MAX_BYTES < bytes.len() {
+        return refused(config::TOO_LONG, counts);
+    }
+    match call_record::check(bytes) {
+        Checked::Wrong(o) => CachedPipeline {
+            answer: Pipelined::BadRecord(o),
+            counts,
+        },
+        Checked::Fine => plan_record(arena, plan, send, bytes, g, clock, epoch, counts),
+    }
+}
+
+// Plans the commands of a call record: what resolving needs goes to the plan buffer, what is sent to the send buffer.
+pub fn get_cached_pipeline(
+    arena: &mut [u8],
+    size: u64,
+    mode: u64,
+    ttl: u64,
+    clock: u64,
+    epoch: u64,
+    bytes: &[u8],
+    plan: &mut [u8],
+    send: &mut [u8],
+    counts: Statistics,
+) -> CachedPipeline
+    ensures { λ r. ⌜ ((next : ℕ) → Leaves (planCall size mode ttl clock epoch (now (bytes .entry)) (now (plan .entry)) (now (send .entry)) (holding (now (arena .entry)) counts next)) (now (arena .exit)) (now (plan .exit)) (now (send .exit)) r) ⌝ }
+{
+    match sharded_lru::admit(arena, size, mode, ttl) {
+        Admitted::Refused(n) => refused(n, counts),
+        Admitted::Admits(g) => plan_admitted(arena, plan, send, bytes, g, clock, epoch, counts),
+    }
+}

@@ -1,0 +1,22 @@
+-- `cached_cmd::with_looked` meets its contract. Assumes nothing.
+use borrow.Author.Needs.{needs}
+use Rattle.cached_cmd.proofs.with_looked.Statement.{statement}
+use Rattle.cached_cmd.proofs.with_looked.Tie as tie
+
+enum-told : tie.Need-enum-told
+enum-told c = search needs
+
+enum-told-2 : tie.Need-enum-told-2
+enum-told-2 c = search needs
+
+add-result : tie.Need-add-result
+add-result c = search needs
+
+returns : tie.Need-returns
+returns c = search needs
+
+returns-2 : tie.Need-returns-2
+returns-2 c = rw (c .enum-told2 .given .1)
+
+pub with-looked-spec : {M : Type 1} → statement M
+with-looked-spec = tie.close (tie.spec enum-told enum-told-2 add-result returns returns-2)

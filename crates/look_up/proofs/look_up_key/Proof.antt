@@ -1,0 +1,25 @@
+-- `look_up::look_up_key` meets its contract. Assumes nothing.
+use mathlib.Core.Path.{sym, _∙_}
+use Rattle.look_up.specs.Looks as laws
+use borrow.Author.Needs.{needs}
+use Rattle.look_up.proofs.look_up_key.Statement.{statement}
+use Rattle.look_up.proofs.look_up_key.Tie as tie
+
+bytes-in-requires : tie.Need-bytes-in-requires
+bytes-in-requires c κs = search needs
+
+get-requires : tie.Need-get-requires
+get-requires c κs = (c .before .before .before .before .pre .2, c .before .before .before .before .pre .1)
+
+counted-requires : tie.Need-counted-requires
+counted-requires c κs = search needs
+
+same-length : tie.Need-same-length
+same-length c = search needs
+
+returns : tie.Need-returns
+returns c = λ w p q. laws.looks-one _ _ _ w _ _ _ _ _ _ (c .before .before .before .get .result) (p ∙ sym (c .before .before .before .before .before .bytes-in .ensures)) q (c .counted .ensures) (c .before .before .before .get .ensures)
+
+pub look-up-key-spec : {M : Type 1} → statement M
+look-up-key-spec =
+    tie.close (tie.spec bytes-in-requires get-requires counted-requires same-length returns)

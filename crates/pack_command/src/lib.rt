@@ -1,0 +1,182 @@
+// What is sent for one command, from its outcome; after `pack_command` (caching/cmd.rs): nothing where it is cached; itself where it is ignored or not
+// cacheable; otherwise `CLIENT CACHING YES` in opt-in mode, and then `PTTL` and the command, or the name with the missing keys and the path and a `PTTL` for
+// each. specs/Sends.antt says which bytes those are. For several keys each place is peeked again (crate several_keys).
+use ask::Several;
+use cached_cmd::CacheableCommand;
+use cached_cmd::CachingResult;
+use cached_cmd::PrepCacheItem;
+use config::CacheMode;
+use config::Settings;
+use cursor::Head;
+use cursor::Range;
+use several_keys::Piece;
+ghost use mathlib.Core.Path.{_≡_};
+ghost use Prim.Native.Nat.{_+_, _≤_, _<_};
+ghost use lib.ListN.{length};
+ghost use Rattle.config.specs.Limits.{maxBytes};
+ghost use Rattle.cursor.specs.At.{RangeIn, ArgsHere};
+ghost use Rattle.cmd.specs.Pack.{blob, blobBytes};
+ghost use Rattle.cmd.specs.Laws.{Wrote};
+ghost use Rattle.ask.specs.Asked.{severalName, pathIn, SeveralIn};
+ghost use Rattle.sharded_lru.specs.Lent.{Arena};
+ghost use Rattle.several_keys.specs.Pieces.{Inside, Fits, Puts};
+ghost use Rattle.pack_command.specs.Sends.{cachingBytes, singleBytes, argumentCount, getName, getBytes, severalBytes, commandSent, CommandInside, sentFor};
+
+// `CLIENT CACHING YES`, in opt-in mode.
+fn write_opt_in(dst: &mut [u8], to: usize, mode: CacheMode) -> usize
+    requires { ⌜ to + length (cachingBytes mode) ≤ length (now dst) ⌝ }
+    ensures { λ r. ⌜ Wrote (now (dst .entry)) to (cachingBytes mode) (now (dst .exit)) r ⌝ }
+{
+    match mode {
+        CacheMode::All => to,
+        CacheMode::OptIn => cmd::write_client_caching(dst, to),
+    }
+}
+
+// For one missing key: `PTTL` and the key, and then the command.
+fn write_single(dst: &mut [u8], to: usize, bytes: &[u8], head: Head, key: Range) -> usize
+    requires { ⌜ ArgsHere (now bytes) (head .args) × RangeIn (now bytes) key × (to + length (singleBytes (now bytes) head key) ≤ length (now dst)) ⌝ }
+    ensures { λ r. ⌜ Wrote (now (dst .entry)) to (singleBytes (now (bytes .entry)) head key) (now (dst .exit)) r ⌝ }
+{
+    let text = cursor::bytes_in(bytes, key);
+    let args = head.args;
+    let next = cmd::write_pttl(dst, to, text);
+    cmd::write_command(bytes, args, head.cursor, dst, next)
+}
+
+// How many arguments are sent for several keys of which n are missing: the name, these keys, and a path for JSON.
+pub fn argument_count(json: bool, n: usize) -> usize
+    requires { ⌜ n ≤ maxBytes ⌝ }
+    ensures { λ r. ⌜ r ≡ argumentCount json n ⌝ }
+{
+    if json { n + 2 } else { n + 1 }
+}
+
+// The name, as a blob.
+fn write_name(dst: &mut [u8], to: usize, json: bool) -> usize
+    requires { ⌜ to + length (blob (severalName json)) ≤ length (now dst) ⌝ }
+    ensures { λ r. ⌜ Wrote (now (dst .entry)) to (blob (severalName json)) (now (dst .exit)) r ⌝ }
+{
+    if json {
+        cmd::write_blob(dst, to, b"JSON.MGET")
+    } else {
+        cmd::write_blob(dst, to, b"MGET")
+    }
+}
+
+// The number of arguments, and the name.
+fn write_get(dst: &mut [u8], to: usize, json: bool, n: usize) -> usize
+    requires { ⌜ (n ≤ maxBytes) × (to + length (getName json n) ≤ length (now dst)) ⌝ }
+    ensures { λ r. ⌜ Wrote (now (dst .entry)) to (getName json n) (now (dst .exit)) r ⌝ }
+{
+    let count = argument_count(json, n);
+    let next = cmd::write_head(dst, to, b'*', count as u64);
+    write_name(dst, next, json)
+}
+
+// The path, for JSON.
+fn write_path(dst: &mut [u8], to: usize, bytes: &[u8], v: Several) -> usize
+    requires { ⌜ SeveralIn (now bytes) v × (0 < v .keys) × (to + length (blobBytes (pathIn (now bytes) v)) ≤ length (now dst)) ⌝ }
+    ensures { λ r. ⌜ Wrote (now (dst .entry)) to (blobBytes (pathIn (now (bytes .entry)) v)) (now (dst .exit)) r ⌝ }
+{
+    let path = v.path;
+    if v.json {
+        cmd::write_blob(dst, to, cursor::bytes_in(bytes, path))
+    } else {
+        to
+    }
+}
+
+// The name with the n missing keys and the path.
+fn write_keys(
+    dst: &mut [u8],
+    to: usize,
+    bytes: &[u8],
+    v: Several,
+    n: usize,
+    arena: &[u8],
+    g: Settings,
+    clock: u64,
+    epoch: u64,
+) -> usize
+    requires { ⌜ SeveralIn (now bytes) v × (length (now bytes) ≤ maxBytes) × Arena g (now arena) × (0 < v .keys) × (n ≤ maxBytes) × Fits g (now arena) (λ rows. getBytes g rows clock epoch (now bytes) v n) to (length (now dst)) ⌝ }
+    ensures { λ r. ⌜ Puts g (now (arena .entry)) (λ rows. getBytes g rows clock epoch (now (bytes .entry)) v n) (now (dst .entry)) to (now (dst .exit)) r ⌝ }
+{
+    let first = write_get(dst, to, v.json, n);
+    let what = Piece::Key;
+    let next = several_keys::write_places(dst, first, what, bytes, v, arena, g, clock, epoch);
+    write_path(dst, next, bytes, v)
+}
+
+// For several keys: the name with the n missing keys and the path, and then a `PTTL` for each.
+fn write_several(
+    dst: &mut [u8],
+    to: usize,
+    bytes: &[u8],
+    v: Several,
+    n: usize,
+    arena: &[u8],
+    g: Settings,
+    clock: u64,
+    epoch: u64,
+) -> usize
+    requires { ⌜ SeveralIn (now bytes) v × (length (now bytes) ≤ maxBytes) × Arena g (now arena) × (0 < v .keys) × (n ≤ maxBytes) × Fits g (now arena) (λ rows. severalBytes g rows clock epoch (now bytes) v n) to (length (now dst)) ⌝ }
+    ensures { λ r. ⌜ Puts g (now (arena .entry)) (λ rows. severalBytes g rows clock epoch (now (bytes .entry)) v n) (now (dst .entry)) to (now (dst .exit)) r ⌝ }
+{
+    let next = write_keys(dst, to, bytes, v, n, arena, g, clock, epoch);
+    let what = Piece::Pttl;
+    several_keys::write_places(dst, next, what, bytes, v, arena, g, clock, epoch)
+}
+
+// For what is missing: in opt-in mode `CLIENT CACHING YES` first.
+pub fn pack_command(
+    dst: &mut [u8],
+    to: usize,
+    bytes: &[u8],
+    head: Head,
+    cc: CacheableCommand,
+    arena: &[u8],
+    g: Settings,
+    clock: u64,
+    epoch: u64,
+) -> usize
+    requires { ⌜ ArgsHere (now bytes) (head .args) × (length (now bytes) ≤ maxBytes) × Arena g (now arena) × CommandInside g (now arena) clock epoch (now bytes) head cc × Fits g (now arena) (λ rows. commandSent g rows clock epoch (now bytes) (now arena) head cc) to (length (now dst)) ⌝ }
+    ensures { λ r. ⌜ Puts g (now (arena .entry)) (λ rows. commandSent g rows clock epoch (now (bytes .entry)) (now (arena .entry)) head cc) (now (dst .entry)) to (now (dst .exit)) r ⌝ }
+{
+    let mode = g.mode;
+    let next = write_opt_in(dst, to, mode);
+    match cc {
+        CacheableCommand::Single(key, _) => write_single(dst, next, bytes, head, key),
+        CacheableCommand::Multiple(v, n, _) => {
+            write_several(dst, next, bytes, v, n, arena, g, clock, epoch)
+        }
+    }
+}
+
+// What is sent for a command.
+pub fn write_sent(
+    dst: &mut [u8],
+    to: usize,
+    bytes: &[u8],
+    head: Head,
+    r: CachingResult,
+    arena: &[u8],
+    g: Settings,
+    clock: u64,
+    epoch: u64,
+) -> usize
+    requires { ⌜ ArgsHere (now bytes) (head .args) × (length (now bytes) ≤ maxBytes) × Arena g (now arena) × Inside g (now arena) clock epoch (now bytes) head r × Fits g (now arena) (λ rows. sentFor g rows clock epoch (now bytes) (now arena) head r) to (length (now dst)) ⌝ }
+    ensures { λ n. ⌜ Puts g (now (arena .entry)) (λ rows. sentFor g rows clock epoch (now (bytes .entry)) (now (arena .entry)) head r) (now (dst .entry)) to (now (dst .exit)) n ⌝ }
+{
+    let args = head.args;
+    match r {
+        CachingResult::Ignored => cmd::write_command(bytes, args, head.cursor, dst, to),
+        CachingResult::Item(i) => match i {
+            PrepCacheItem::Cached(_) => to,
+            PrepCacheItem::NotCached(cc) => {
+                pack_command(dst, to, bytes, head, cc, arena, g, clock, epoch)
+            }
+            PrepCacheItem::NotCacheable => { cmd::write_command(bytes, args, head.cursor, dst, to) }
+        },
+    }
+}

@@ -1,0 +1,232 @@
+// Around what is sent for each command; after `write_pipeline` (pipeline.rs): how long it is and how many commands it is, and `MULTI` and `EXEC` around a
+// transaction. What is sent for one command is crate pack_command; specs/Lengths.antt and specs/Wrapped.antt have the laws.
+use ask::Several;
+use cached_cmd::CacheableCommand;
+use cached_cmd::CachingResult;
+use cached_cmd::PrepCacheItem;
+use config::CacheMode;
+use config::Settings;
+use cursor::Head;
+use cursor::Range;
+use several_keys::Piece;
+ghost use mathlib.Core.Path.{_≡_};
+ghost use Prim.Native.Nat.{ℕ, _+_, _^_, _≤_, _<_};
+ghost use lib.ListN.{length};
+ghost use Rattle.config.specs.Limits.{maxBytes, maxArguments};
+ghost use Rattle.cursor.specs.At.{RangeIn, ArgsHere, commandOf};
+ghost use Rattle.cmd.specs.Pack.{blob, blobBytes};
+ghost use Rattle.cmd.specs.Laws.{Wrote};
+ghost use Rattle.book.specs.Book.{Row};
+ghost use Rattle.planning.specs.Sent.{packs, sends};
+ghost use Rattle.ask.specs.Asked.{severalName, pathIn, SeveralIn};
+ghost use Rattle.sharded_lru.specs.Lent.{Lent, Arena, setupNow};
+ghost use Rattle.cached_cmd.specs.Result.{commandFor, resultOf};
+ghost use Rattle.several_keys.specs.Pieces.{Inside};
+ghost use Rattle.pack_command.specs.Sends.{cachingBytes, ownBytes, singleBytes, getName, severalBytes, packsBytes, CommandInside, sentFor};
+ghost use Rattle.pipeline.specs.Wrapped.{startBytes, endBytes};
+ghost use Rattle.pipeline.specs.Lengths.{optInCount};
+
+// How long `CLIENT CACHING YES` is, in opt-in mode.
+fn opt_in_len(mode: CacheMode) -> usize
+    ensures { λ r. ⌜ (r ≡ length (cachingBytes mode)) × (r ≤ 38) ⌝ }
+{
+    match mode {
+        CacheMode::All => 0,
+        CacheMode::OptIn => 38,
+    }
+}
+
+// How long the command itself is.
+fn own_len(bytes: &[u8], head: Head) -> usize
+    requires { ⌜ ArgsHere (now bytes) (head .args) × (length (now bytes) ≤ maxBytes) × (head .args .left ≤ maxArguments) ⌝ }
+    ensures { λ r. ⌜ (r ≡ length (ownBytes (now (bytes .entry)) head)) × (r ≤ 2 ^ 32) ⌝ }
+{
+    let args = head.args;
+    cmd::args_len(bytes, args, head.cursor)
+}
+
+// For one missing key: `PTTL` and the key, and the command.
+fn single_len(bytes: &[u8], head: Head, key: Range) -> usize
+    requires { ⌜ ArgsHere (now bytes) (head .args) × (length (now bytes) ≤ maxBytes) × (head .args .left ≤ maxArguments) × RangeIn (now bytes) key ⌝ }
+    ensures { λ r. ⌜ (r ≡ length (singleBytes (now (bytes .entry)) head key)) × (r ≤ 2 ^ 57) ⌝ }
+{
+    14 + cmd::bulklen(key.end - key.start) + own_len(bytes, head)
+}
+
+// The name of a several-key command, as a blob.
+fn name_len(json: bool) -> usize
+    ensures { λ r. ⌜ (r ≡ length (blob (severalName json))) × (r ≤ 15) ⌝ }
+{
+    if json { 15 } else { 10 }
+}
+
+// The number of its arguments, and the name.
+fn get_len(json: bool, n: usize) -> usize
+    requires { ⌜ n ≤ maxBytes ⌝ }
+    ensures { λ r. ⌜ (r ≡ length (getName json n)) × (r ≤ 38) ⌝ }
+{
+    let count = pack_command::argument_count(json, n);
+    3 + decimal::countdigits(count as u64) + name_len(json)
+}
+
+// Its path, for JSON.
+fn path_len(bytes: &[u8], v: Several) -> usize
+    requires { ⌜ SeveralIn (now bytes) v × (length (now bytes) ≤ maxBytes) × (0 < v .keys) ⌝ }
+    ensures { λ r. ⌜ (r ≡ length (blobBytes (pathIn (now (bytes .entry)) v))) × (r ≤ 2 ^ 32) ⌝ }
+{
+    let path = v.path;
+    if v.json {
+        cmd::bulklen(path.end - path.start)
+    } else {
+        0
+    }
+}
+
+// For several keys: the name with the n missing ones and the path, and a `PTTL` for each.
+fn several_len(
+    bytes: &[u8],
+    v: Several,
+    n: usize,
+    arena: &[u8],
+    g: Settings,
+    clock: u64,
+    epoch: u64,
+) -> usize
+    requires { ⌜ SeveralIn (now bytes) v × (length (now bytes) ≤ maxBytes) × Arena g (now arena) × (0 < v .keys) × (n ≤ maxBytes) ⌝ }
+    ensures { λ r. ⌜ ((rows : ℕ → Row) → Lent g (now (arena .entry)) rows → r ≡ length (severalBytes g rows clock epoch (now (bytes .entry)) v n)) × (r ≤ 2 ^ 58) ⌝ }
+{
+    let keys = several_keys::places_len(Piece::Key, bytes, v, arena, g, clock, epoch);
+    let pttls = several_keys::places_len(Piece::Pttl, bytes, v, arena, g, clock, epoch);
+    get_len(v.json, n) + keys + path_len(bytes, v) + pttls
+}
+
+// For what is missing.
+fn packs_len(
+    bytes: &[u8],
+    head: Head,
+    cc: CacheableCommand,
+    arena: &[u8],
+    g: Settings,
+    clock: u64,
+    epoch: u64,
+) -> usize
+    requires { ⌜ ArgsHere (now bytes) (head .args) × (length (now bytes) ≤ maxBytes) × (head .args .left ≤ maxArguments) × Arena g (now arena) × CommandInside g (now arena) clock epoch (now bytes) head cc ⌝ }
+    ensures { λ r. ⌜ ((rows : ℕ → Row) → Lent g (now (arena .entry)) rows → r ≡ length (packsBytes g rows clock epoch (now (bytes .entry)) (now (arena .entry)) head cc)) × (r ≤ 2 ^ 58) ⌝ }
+{
+    match cc {
+        CacheableCommand::Single(key, _) => single_len(bytes, head, key),
+        CacheableCommand::Multiple(v, n, _) => several_len(bytes, v, n, arena, g, clock, epoch),
+    }
+}
+
+// How long that is which is sent for a command.
+pub fn send_len(
+    bytes: &[u8],
+    head: Head,
+    r: CachingResult,
+    arena: &[u8],
+    g: Settings,
+    clock: u64,
+    epoch: u64,
+) -> usize
+    requires { ⌜ ArgsHere (now bytes) (head .args) × (length (now bytes) ≤ maxBytes) × (head .args .left ≤ maxArguments) × Arena g (now arena) × Inside g (now arena) clock epoch (now bytes) head r ⌝ }
+    ensures { λ n. ⌜ ((rows : ℕ → Row) → Lent g (now (arena .entry)) rows → n ≡ length (sentFor g rows clock epoch (now (bytes .entry)) (now (arena .entry)) head r)) × (n ≤ 2 ^ 59) ⌝ }
+{
+    let mode = g.mode;
+    match r {
+        CachingResult::Ignored => own_len(bytes, head),
+        CachingResult::Item(i) => match i {
+            PrepCacheItem::Cached(_) => 0,
+            PrepCacheItem::NotCached(cc) => {
+                opt_in_len(mode) + packs_len(bytes, head, cc, arena, g, clock, epoch)
+            }
+            PrepCacheItem::NotCacheable => own_len(bytes, head),
+        },
+    }
+}
+
+// How many commands `CLIENT CACHING YES` is: one in opt-in mode.
+fn opt_in_count(mode: CacheMode) -> usize
+    ensures { λ r. ⌜ r ≡ optInCount mode ⌝ }
+{
+    match mode {
+        CacheMode::All => 0,
+        CacheMode::OptIn => 1,
+    }
+}
+
+// How many commands what is missing is.
+fn packs_count(
+    bytes: &[u8],
+    head: Head,
+    cc: CacheableCommand,
+    arena: &[u8],
+    g: Settings,
+    clock: u64,
+    epoch: u64,
+) -> usize
+    requires { ⌜ (length (now bytes) ≤ maxBytes) × Arena g (now arena) × CommandInside g (now arena) clock epoch (now bytes) head cc ⌝ }
+    ensures { λ r. ⌜ ((rows : ℕ → Row) → Lent g (now (arena .entry)) rows → r ≡ length (packs (commandOf (now (bytes .entry)) head) (commandFor (setupNow g) rows clock epoch (now (bytes .entry)) (now (arena .entry)) (commandOf (now (bytes .entry)) head) cc))) × (r ≤ 2 ^ 25) ⌝ }
+{
+    match cc {
+        CacheableCommand::Single(_, _) => 2,
+        CacheableCommand::Multiple(_, n, _) => 1 + n,
+    }
+}
+
+// How many commands are sent for a command.
+pub fn sent_count(
+    bytes: &[u8],
+    head: Head,
+    r: CachingResult,
+    arena: &[u8],
+    g: Settings,
+    clock: u64,
+    epoch: u64,
+) -> usize
+    requires { ⌜ (length (now bytes) ≤ maxBytes) × Arena g (now arena) × Inside g (now arena) clock epoch (now bytes) head r ⌝ }
+    ensures { λ n. ⌜ ((rows : ℕ → Row) → Lent g (now (arena .entry)) rows → n ≡ length (sends (g .mode) (commandOf (now (bytes .entry)) head) (resultOf (setupNow g) rows clock epoch (now (bytes .entry)) (now (arena .entry)) (commandOf (now (bytes .entry)) head) r))) × (n ≤ 2 ^ 26) ⌝ }
+{
+    let mode = g.mode;
+    match r {
+        CachingResult::Ignored => 1,
+        CachingResult::Item(i) => match i {
+            PrepCacheItem::Cached(_) => 0,
+            PrepCacheItem::NotCached(cc) => {
+                opt_in_count(mode) + packs_count(bytes, head, cc, arena, g, clock, epoch)
+            }
+            PrepCacheItem::NotCacheable => 1,
+        },
+    }
+}
+
+// `MULTI`, for a transaction.
+pub fn write_start(dst: &mut [u8], to: usize, transaction: bool) -> usize
+    requires { ⌜ to + length (startBytes transaction) ≤ length (now dst) ⌝ }
+    ensures { λ r. ⌜ Wrote (now (dst .entry)) to (startBytes transaction) (now (dst .exit)) r ⌝ }
+{
+    if transaction {
+        cmd::write_multi(dst, to)
+    } else {
+        to
+    }
+}
+
+// `EXEC`, for a transaction.
+pub fn write_end(dst: &mut [u8], to: usize, transaction: bool) -> usize
+    requires { ⌜ to + length (endBytes transaction) ≤ length (now dst) ⌝ }
+    ensures { λ r. ⌜ Wrote (now (dst .entry)) to (endBytes transaction) (now (dst .exit)) r ⌝ }
+{
+    if transaction {
+        cmd::write_exec(dst, to)
+    } else {
+        to
+    }
+}
+
+// How long `MULTI` and `EXEC` are, for a transaction.
+pub fn wrap_len(transaction: bool) -> usize
+    ensures { λ r. ⌜ r ≡ length (startBytes transaction) + length (endBytes transaction) ⌝ }
+{
+    if transaction { 29 } else { 0 }
+}

@@ -1,0 +1,3 @@
+pub mod Unseen
+pub mod Does
+pub mod Going

@@ -1,0 +1,1 @@
+// Definitions and theorems alone: how many bytes planning writes, command by command (specs/).
