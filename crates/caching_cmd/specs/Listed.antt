@@ -1,0 +1,107 @@
+-- The passes over the list of replies, put together: what they find and do is what becomes of the plan. Assumes nothing.
+use mathlib.Core.Path.{_≡_, sym, ap, ap₂, subst, _∙_}
+use mathlib.Core.Bool.{Bool, true}
+use mathlib.Core.List.{[]}
+use mathlib.Core.Option.{some}
+use Prim.Native.Nat.{ℕ, _≤_}
+use lib.ListN.{length}
+use Rattle.buffer.specs.Same.{Bytes}
+use Rattle.config.specs.Causes.{shortAnswer}
+use Rattle.config.specs.Limits.{maxBytes}
+use Rattle.config.specs.declared.CacheMode.{CacheMode}
+use Rattle.config.specs.declared.Settings.{Settings}
+use Rattle.resp3.specs.Value.{Value, Values, none}
+use Rattle.resp3_element.specs.declared.Cursor.{Cursor}
+use Rattle.resp3_element.specs.Meaning.{Stands}
+use Rattle.plan.specs.Decode.{readPlan, isPlan}
+use Rattle.plan_commands.specs.Commands.{planRead}
+use Rattle.resolving.specs.Convert.{repliesOf}
+use Rattle.resolving.specs.Resolve.{Resolved, cause7, resolve}
+use Rattle.resolve_walk.specs.Walk.{walk}
+use Rattle.resolve_walk.specs.Same.{walkedOf, plan-walk, no-list, resultHead}
+use Rattle.resolve_step.specs.declared.Walk.{Walk}
+use Rattle.resolve_pass.specs.declared.Room.{Room}
+use Rattle.resolve_pass.specs.declared.Dry.{Dry}
+use Rattle.resolve_pass.specs.declared.Dry.the-variants.{Fits, Short, Wrong}
+use Rattle.resolve_pass.specs.Passes.{spent, dryOf, Starts, Begins, DryIs, Fine}
+use Rattle.caching_cmd.specs.declared.ResolveAnswer.{ResolveAnswer}
+use Rattle.caching_cmd.specs.declared.ResolveAnswer.the-variants.{Refused}
+use Rattle.caching_cmd.specs.declared.Found.the-variants.{No}
+use Rattle.caching_cmd.specs.Parts.{FoundIs, startAt, Listed, ShapeRefused, AllWritten, Judged}
+use Rattle.caching_cmd.specs.Settle.{wholeRoom, dryFor, dry-says, fine-dry, fine-head, settle-wrong, settle-short, settle-fits}
+use Rattle.caching_cmd.specs.Laws.{PlanRead, plan-read, starts, many-answers, goes-not}
+
+-- the passes begin
+pub begins : (plan list : Bytes) (first : Cursor) (c : Walk) → c ≡ startAt first → isPlan plan ≡ true → Listed list first → Begins plan list c
+begins plan list first c e ok l =
+    record {
+      ns = readPlan plan .nodes;
+      es = none;
+      rs = l .rs;
+      starts = rw e (starts plan list first (l .rs) (plan-read plan ok) (l .stands) (l .small));
+    }
+
+-- where all fits, the answer pass has room
+pub fine-all : (plan list : Bytes) (c : Walk) (mode : CacheMode) (clock n h : ℕ) (room : Room) (d : Dry) → room ≡ spent (wholeRoom n) h → DryIs plan list c mode clock room d → d ≡ Fits
+    → Fine plan list c mode clock h n
+fine-all plan list c mode clock n h room d e f q ns es rs t = fine-dry n h (walk mode clock ns es rs) (sym q ∙ f ns es rs t ∙ ap (λ (r : Room). dryOf r (walk mode clock ns es rs)) e)
+
+-- and so has the head
+pub head-fits : (plan list : Bytes) (c : Walk) (mode : CacheMode) (clock n h : ℕ) → Begins plan list c → Fine plan list c mode clock h n → h ≤ n
+head-fits plan list c mode clock n h b f = fine-head n h (walk mode clock (b .ns) (b .es) (b .rs)) (f (b .ns) (b .es) (b .rs) (b .starts))
+
+-- the same of numbers that are equal
+pub fine-same : (plan list : Bytes) (c : Walk) (mode : CacheMode) (clock h n i m : ℕ) → i ≡ h → m ≡ n → Fine plan list c mode clock h n → Fine plan list c mode clock i m
+fine-same plan list c mode clock h n i m a b f = rw (a, b) f
+
+module _ (g : Settings) (epoch : ℕ) (plan list : Bytes) (first : Cursor) (c : Walk) (clock : ℕ) (buffer : Bytes) (ok : isPlan plan ≡ true) (at : c ≡ startAt first)
+    (small : length list ≤ maxBytes) (v : Value) (rs : Values) (e : repliesOf (readPlan plan .transaction) v ≡ some rs) (t : Stands list first rs) where
+  -- what becomes of the plan
+  abbrev pub result : Resolved
+  result = resolve (planRead (readPlan plan)) (g .mode) clock v
+
+  read : PlanRead plan
+  read = plan-read plan ok
+
+  here : Starts plan list c (readPlan plan .nodes) none rs
+  here = rw at (starts plan list first rs read t small)
+
+  same : walk (g .mode) clock (readPlan plan .nodes) none rs ≡ walkedOf result
+  same = plan-walk (readPlan plan) (read .good) (g .mode) clock v rs e
+
+  module _ (transaction : Bool) (k : ℕ) (room : Room) (d : Dry) (a : transaction ≡ readPlan plan .transaction) (b : k ≡ readPlan plan .commands)
+      (q : room ≡ spent (wholeRoom (length buffer)) (length (resultHead transaction k))) (f : DryIs plan list c (g .mode) clock room d) where
+    -- what the dry pass found of it
+    dry-is : d ≡ dryFor (readPlan plan .transaction) result (length buffer)
+    dry-is =
+        f (readPlan plan .nodes) none rs here
+        ∙ ap₂ dryOf (q ∙ ap₂ (λ (t : Bool) (i : ℕ). spent (wholeRoom (length buffer)) (length (resultHead t i))) a b) same
+        ∙ dry-says (readPlan plan .transaction) result (length buffer) (readPlan plan .commands) (many-answers plan read (g .mode) clock v)
+
+    pub list-wrong : (old new after : Bytes) (r : ResolveAnswer) → d ≡ Wrong → ShapeRefused g epoch plan list c clock old new buffer after r
+        → Judged g (readPlan plan .transaction) epoch result old new buffer after r
+    list-wrong old new after r w h =
+        rw (h .0)
+        (settle-wrong g (readPlan plan .transaction) epoch old buffer result (walk (g .mode) clock (readPlan plan .nodes) none rs) new after (h .2 .0) same
+        (sym w ∙ dry-is) (h .2 .1 (readPlan plan .nodes) none rs here) (h .1))
+
+    pub list-short : (old : Bytes) → d ≡ Short → Judged g (readPlan plan .transaction) epoch result old old buffer buffer (Refused shortAnswer)
+    list-short old w = settle-short g (readPlan plan .transaction) epoch old buffer result (sym w ∙ dry-is)
+
+    pub list-fits : (old new after : Bytes) (r : ResolveAnswer) → d ≡ Fits → AllWritten g epoch plan list c clock transaction k old new buffer after r
+        → Judged g (readPlan plan .transaction) epoch result old new buffer after r
+    list-fits old new after r w h =
+        let i : AllWritten g epoch plan list c clock (readPlan plan .transaction) k old new buffer after r =
+        subst (λ (t : Bool). AllWritten g epoch plan list c clock t k old new buffer after r) a h in
+        let j : AllWritten g epoch plan list c clock (readPlan plan .transaction) (readPlan plan .commands) old new buffer after r =
+        subst (λ (m : ℕ). AllWritten g epoch plan list c clock (readPlan plan .transaction) m old new buffer after r) b i in
+        let z = j (readPlan plan .nodes) none rs here in
+        rw (z .1)
+        (settle-fits g (readPlan plan .transaction) epoch old buffer result (walk (g .mode) clock (readPlan plan .nodes) none rs) (readPlan plan .commands) new after (z .0)
+        (many-answers plan read (g .mode) clock v) same (sym w ∙ dry-is) (z .2) (z .3))
+
+-- where no list is found
+pub none-found : (plan replies : Bytes) (mode : CacheMode) (clock : ℕ) (v : Value) → FoundIs replies No (repliesOf (readPlan plan .transaction) v)
+    → resolve (planRead (readPlan plan)) mode clock v ≡ cause7 []
+unfolding planRead
+none-found plan replies mode clock v h = no-list (planRead (readPlan plan)) mode clock v (goes-not replies (repliesOf (readPlan plan .transaction) v) h)

@@ -1,0 +1,1 @@
+// No code: that the plan which planning wrote is read as the outcomes it was written for, in specs/.

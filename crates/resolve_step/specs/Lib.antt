@@ -1,0 +1,4 @@
+pub mod Steps
+pub mod Says
+pub mod Arms
+pub mod Laws
