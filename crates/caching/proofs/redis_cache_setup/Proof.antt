@@ -1,0 +1,30 @@
+-- `caching::redis_cache_setup` meets its contract. Assumes nothing.
+use mathlib.Core.Path.{ap, _∙_}
+use Rattle.caching.specs.Exported.{setupReturn}
+use borrow.Author.Needs.{needs}
+use Rattle.caching.proofs.redis_cache_setup.Statement.{statement}
+use Rattle.caching.proofs.redis_cache_setup.Tie as tie
+use Rattle.caching.proofs.redis_cache_setup.Reads as reads
+use Rattle.caching.proofs.redis_cache_setup.Lts as lts
+use Rattle.caching.proofs.setup_return.Reads as setup-return-reads
+use Rattle.single_calls.proofs.setup.Reads as setup-reads
+
+-- src/lib.rt:117:18
+setup-requires : tie.Need-setup-requires
+setup-requires c κs = search needs
+
+-- src/lib.rt:117:5
+setup-return-requires : tie.Need-setup-return-requires
+setup-return-requires c κs = search needs
+
+-- src/lib.rt:112:1
+same-length : tie.Need-same-length
+same-length c = search needs
+
+-- src/lib.rt:112:1
+returns : tie.Need-returns
+returns c = (c .setup-return .ensures ∙ ap setupReturn (c .before .before .before .setup .ensures .0), c .before .before .before .setup .ensures .1)
+
+pub redis-cache-setup-spec : {M : Type 1} → statement M
+redis-cache-setup-spec =
+    tie.close (tie.spec setup-requires setup-return-requires same-length returns)

@@ -1,0 +1,92 @@
+// Planning through C linkage, thin over `cache_manager::get_cached_pipeline`. include/redis_cache.h says what each parameter means. Assumes nothing of the
+// caller.
+use crate::counts_in;
+use crate::put_counts;
+use cache_manager::Pipelined;
+ghost use mathlib.Core.Path.{_≡_};
+ghost use Prim.Native.Nat.{ℕ};
+ghost use Rattle.single_calls.specs.Answers.{holding};
+ghost use Rattle.cache_manager.specs.Pipeline.{returnedOf, planCall};
+ghost use Rattle.caching.specs.Exported.{countsIn, countsList};
+ghost use Rattle.caching.specs.Planned.{refusedReturn, planReturn};
+
+// What planning returns: 01's number of the cause that refuses it, or 0; cause 2's offset; how many bytes of the plan buffer and of the send buffer are
+// written; the response counts.
+#[repr(C)]
+pub struct RedisCachePlan {
+    pub cause: u64,
+    pub at: u64,
+    pub plan: u64,
+    pub send: u64,
+    pub offset: u64,
+    pub count: u64,
+}
+
+// A refusal: its number, and the offset where there is one.
+fn refusal(cause: u64, at: u64) -> RedisCachePlan
+    ensures { λ r. ⌜ r ≡ refusedReturn cause at ⌝ }
+{
+    RedisCachePlan {
+        cause,
+        at,
+        plan: 0,
+        send: 0,
+        offset: 0,
+        count: 0,
+    }
+}
+
+fn plan_return(answer: Pipelined) -> RedisCachePlan
+    ensures { λ r. ⌜ r ≡ planReturn (returnedOf answer) ⌝ }
+{
+    match answer {
+        Pipelined::Done(w) => RedisCachePlan {
+            cause: single_calls::NO_CAUSE,
+            at: 0,
+            plan: w.plan as u64,
+            send: w.send as u64,
+            offset: w.offset as u64,
+            count: w.count as u64,
+        },
+        Pipelined::BadRecord(at) => refusal(config::BAD_RECORD, at as u64),
+        Pipelined::Refused(n) => refusal(n, 0),
+    }
+}
+
+// Looks the record's commands up, and writes the plan and what is to be sent.
+#[no_mangle]
+pub extern "C" fn redis_cache_plan(
+    arena: &mut [u8],
+    size: u64,
+    mode: u64,
+    ttl: u64,
+    clock: u64,
+    epoch: u64,
+    bytes: &[u8],
+    counts: &mut [u64; 3],
+    plan: &mut [u8],
+    send: &mut [u8],
+) -> RedisCachePlan
+    ensures answer { λ r. ⌜ ((next : ℕ) → r ≡ planReturn (planCall size mode ttl clock epoch (now (bytes .entry)) (now (plan .entry)) (now (send .entry)) (holding (now (arena .entry)) (countsIn (now (counts .entry))) next) .returned)) ⌝ }
+    ensures arena { λ _. ⌜ ((next : ℕ) → now (arena .exit) ≡ planCall size mode ttl clock epoch (now (bytes .entry)) (now (plan .entry)) (now (send .entry)) (holding (now (arena .entry)) (countsIn (now (counts .entry))) next) .held .arena) ⌝ }
+    ensures counts { λ _. ⌜ ((next : ℕ) → now (counts .exit) ≡ countsList (planCall size mode ttl clock epoch (now (bytes .entry)) (now (plan .entry)) (now (send .entry)) (holding (now (arena .entry)) (countsIn (now (counts .entry))) next) .held .counts)) ⌝ }
+    ensures plan { λ _. ⌜ ((next : ℕ) → now (plan .exit) ≡ planCall size mode ttl clock epoch (now (bytes .entry)) (now (plan .entry)) (now (send .entry)) (holding (now (arena .entry)) (countsIn (now (counts .entry))) next) .plan) ⌝ }
+    ensures send { λ _. ⌜ ((next : ℕ) → now (send .exit) ≡ planCall size mode ttl clock epoch (now (bytes .entry)) (now (plan .entry)) (now (send .entry)) (holding (now (arena .entry)) (countsIn (now (counts .entry))) next) .send) ⌝ }
+{
+    let was = counts_in(counts);
+    let r = cache_manager::get_cached_pipeline(
+        arena,
+        size,
+        mode,
+        ttl,
+        clock,
+        epoch,
+        bytes,
+        plan,
+        send,
+        was,
+    );
+    let answer = r.answer;
+    put_counts(counts, r.counts);
+    plan_return(answer)
+}

@@ -1,0 +1,5 @@
+pub mod Push
+pub mod Kept
+pub mod Cases
+pub mod Laws
+pub mod Calls
