@@ -1,38 +1,50 @@
 //! What the sequences came to, so that one sees that hits, evictions, epochs, expiries and updates were common.
 
-use calls::{Answer, Call, State};
+use calls::{Answer, Call, Outcome, Place, State};
 use std::collections::BTreeMap;
 
 /// Counts of events by name.
 #[derive(Default)]
 pub struct Coverage(BTreeMap<&'static str, u64>);
 
-/// Every event that the comparison means to meet.
-pub const EVENTS: &[&str] = &[
-    "calls",
-    "plan",
-    "resolve",
-    "push",
+/// What single calls come to.
+pub const SINGLE_EVENTS: &[&str] = &[
     "lookup",
     "store",
     "invalidate",
-    "new epoch",
     "hit",
     "miss",
     "dropped entries",
     "evicted or replaced",
     "updated in place",
     "items with several entries",
-    "refused stores",
     "cause 1",
+    "cause 6",
+    "cause 11",
+];
+
+/// What the other calls come to beside it.
+pub const OTHER_EVENTS: &[&str] = &[
+    "plan",
+    "resolve",
+    "push",
+    "new epoch",
+    "refused stores",
     "cause 2",
     "cause 4",
     "cause 5",
-    "cause 6",
     "cause 7",
     "cause 7 with stores",
     "cause 8",
-    "cause 11",
+    "transaction planned",
+    "opt-in planned",
+    "ignored",
+    "not cacheable",
+    "cached",
+    "cached array",
+    "one key missing",
+    "several missing",
+    "partly served",
 ];
 
 impl Coverage {
@@ -43,6 +55,16 @@ impl Coverage {
         match answer {
             Answer::Refused(refusal) => self.add(cause(refusal.cause), 1),
             Answer::Resolved { refused, .. } => self.add("refused stores", *refused),
+            Answer::Planned {
+                sent,
+                responses,
+                outcomes,
+            } => {
+                let opt_in = sent.windows(7).any(|part| part == b"CACHING");
+                self.add("transaction planned", u64::from(responses.0 > 0));
+                self.add("opt-in planned", u64::from(opt_in));
+                outcomes.iter().for_each(|told| self.add(outcome(told), 1));
+            }
             _ => {}
         }
         if *answer == Answer::Refused(calls::Refusal::number(7)) && before != after {
@@ -88,11 +110,12 @@ impl Coverage {
         self.0.get(event).copied().unwrap_or(0)
     }
 
-    /// One line of all events.
+    /// One line of what was met.
     pub fn summary(&self) -> String {
-        let parts: Vec<String> = EVENTS
+        let parts: Vec<String> = self
+            .0
             .iter()
-            .map(|event| format!("{event} {}", self.of(event)))
+            .map(|(event, times)| format!("{event} {times}"))
             .collect();
         parts.join(", ")
     }
@@ -107,6 +130,22 @@ fn kind(call: &Call) -> &'static str {
         Call::Store { .. } => "store",
         Call::Invalidate { .. } => "invalidate",
         Call::NewEpoch => "new epoch",
+    }
+}
+
+fn outcome(told: &Outcome) -> &'static str {
+    match told {
+        Outcome::Ignored => "ignored",
+        Outcome::NotCacheable => "not cacheable",
+        Outcome::Cached(_) => "cached",
+        Outcome::CachedAll(_) => "cached array",
+        Outcome::Single(_) => "one key missing",
+        Outcome::Multiple(places) => {
+            match places.iter().any(|place| matches!(place, Place::Served(_))) {
+                true => "partly served",
+                false => "several missing",
+            }
+        }
     }
 }
 

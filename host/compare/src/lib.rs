@@ -1,10 +1,12 @@
 //! The comparison: the same calls made to every party, every answer and the whole state after each call compared.
 //!
-//! The model leads; the parties that follow it are the crate's own sources (feature `reference`) and, once it is there, the
-//! library. Sequences come from a seeded generator, from the stored answers, or from a transcript.
+//! The model leads; the parties that follow it are the crate's own sources (feature `reference`) and the proved library
+//! (feature `library`). Sequences come from a seeded generator, from the stored answers, or from a transcript.
 
 pub mod coverage;
 pub mod generate;
+pub mod guarded;
+pub mod output;
 pub mod party;
 pub mod rng;
 pub mod sequence;

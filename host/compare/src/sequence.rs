@@ -28,8 +28,8 @@ impl Run {
         }
     }
 
-    /// Makes a call to all; the error says who differs, and shows the calls up to this one, which is the shortest prefix
-    /// that differs.
+    /// Makes a call to all; the error says who differs, and shows the calls up to this one, which is the
+    /// shortest prefix that differs.
     pub fn call(&mut self, at: At, call: Call, coverage: &mut Coverage) -> Result<Answer, String> {
         let before = self.leader.state().clone();
         let answer = self.leader.call(at, &call);
@@ -76,7 +76,9 @@ fn difference(
     answer: &Answer,
     state: &State,
 ) -> Option<String> {
-    let Ok(theirs) = catch_unwind(AssertUnwindSafe(|| party.call(at, call))) else {
+    let Ok((theirs, their_state)) =
+        catch_unwind(AssertUnwindSafe(|| (party.call(at, call), party.state())))
+    else {
         return Some(format!("{}:\n< panicked\n", party.name()));
     };
     let agrees = match (&theirs, answer) {
@@ -84,11 +86,11 @@ fn difference(
         (None, Answer::Refused(refusal)) => [1, 2, 3, 6].contains(&refusal.cause),
         (None, _) => false,
     };
-    if agrees && party.state() == *state {
+    if agrees && their_state == *state {
         return None;
     }
     let theirs = theirs.map_or("< cannot be given this call\n".into(), |a| {
         print::answer(&a)
     });
-    Some(shown(party.name(), &theirs, &party.state()))
+    Some(shown(party.name(), &theirs, &their_state))
 }

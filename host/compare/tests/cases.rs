@@ -42,14 +42,7 @@ fn json_mget_of_a_path_alone_is_an_empty_array() {
     for mut party in parties(&setup(4)) {
         let planned = answer(&mut *party, at(0), &plan(&["JSON.MGET k"]));
         let outcomes = vec![Outcome::CachedAll(vec![])];
-        assert_eq!(
-            planned,
-            Answer::Planned {
-                sent: vec![],
-                responses: (0, 0),
-                outcomes
-            }
-        );
+        assert_eq!(planned, all_served(outcomes));
         assert_eq!(
             result(answer(&mut *party, at(0), &resolve(0, "*0\r\n"))),
             "*1\r\n*0\r\n"
@@ -187,14 +180,7 @@ fn a_result_may_nest_18_deep() {
         let planned = answer(&mut *party, at(0), &plan(&["MGET k k"]));
         let served = deep.as_bytes().to_vec();
         let outcomes = vec![Outcome::CachedAll(vec![served.clone(), served])];
-        assert_eq!(
-            planned,
-            Answer::Planned {
-                sent: vec![],
-                responses: (0, 0),
-                outcomes
-            }
-        );
+        assert_eq!(planned, all_served(outcomes));
         let resolved = answer(&mut *party, at(0), &resolve(0, "*0\r\n"));
         assert_eq!(result(resolved), format!("*1\r\n*2\r\n{deep}{deep}"));
     }

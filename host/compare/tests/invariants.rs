@@ -15,13 +15,7 @@ const SEQUENCES: u64 = 500;
 /// Every call of the random sequences, with the model before it.
 fn each(mut check: impl FnMut(&Setup, &Model, At, &Call)) {
     for seed in 1..=SEQUENCES {
-        let mut sequence = Sequence::begin(
-            seed,
-            Limits {
-                cursor_as_key: true,
-            },
-            |_| Vec::new(),
-        );
+        let mut sequence = Sequence::begin(seed, Limits::ALL, |_| Vec::new());
         for _ in 0..60 {
             let (at, call) = sequence.next_call();
             check(sequence.setup(), sequence.leader(), at, &call);

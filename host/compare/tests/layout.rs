@@ -11,13 +11,7 @@ const SEQUENCES: u64 = 200;
 
 fn each(mut check: impl FnMut(&Sequence, &Answer)) {
     for seed in 1..=SEQUENCES {
-        let mut sequence = Sequence::begin(
-            seed,
-            Limits {
-                cursor_as_key: true,
-            },
-            |_| Vec::new(),
-        );
+        let mut sequence = Sequence::begin(seed, Limits::ALL, |_| Vec::new());
         for _ in 0..40 {
             let (at, call) = sequence.next_call();
             let answer = sequence

@@ -1,7 +1,7 @@
-//! Random sequences, compared with the crate's own sources: SEQUENCES of them (3,000 if not set), each of 60 calls.
-#![cfg(feature = "reference")]
+//! Random sequences with every party that there is: SEQUENCES of them (3,000 if not set), each of 60 calls.
+#![cfg(any(feature = "reference", feature = "library"))]
 
-use compare::coverage::{Coverage, EVENTS};
+use compare::coverage::{Coverage, OTHER_EVENTS, SINGLE_EVENTS};
 use compare::generate::{self, Limits};
 
 fn sequences() -> u64 {
@@ -9,23 +9,35 @@ fn sequences() -> u64 {
     given.map_or(3000, |text| text.parse().expect("SEQUENCES is a number"))
 }
 
-#[test]
-fn model_and_reference_agree_and_meet_every_event() {
+/// All agree, and each of these events is met.
+fn agree(limits: Limits, events: &[&[&str]]) {
     let mut coverage = Coverage::default();
-    let limits = Limits {
-        cursor_as_key: false,
-    };
     for seed in 1..=sequences() {
         if let Err(text) = generate::sequence(seed, 60, limits, &mut coverage) {
             panic!("\n{text}");
         }
     }
     println!("{}", coverage.summary());
-    for event in EVENTS {
-        assert!(
-            coverage.of(event) >= sequences() / 10,
-            "{event}: {}",
-            coverage.of(event)
-        );
+    for event in events.concat() {
+        let met = coverage.of(event);
+        assert!(met >= sequences() / 10, "{event}: {met}");
     }
+}
+
+#[cfg(feature = "reference")]
+#[test]
+fn every_party_agrees() {
+    agree(Limits::CRATE, &[SINGLE_EVENTS, OTHER_EVENTS]);
+}
+
+/// Also on cursors as keys, which the crate cannot be given.
+#[cfg(feature = "library")]
+#[test]
+fn model_and_library_agree() {
+    agree(Limits::ALL, &[SINGLE_EVENTS, OTHER_EVENTS]);
+}
+
+#[test]
+fn every_party_agrees_on_single_calls() {
+    agree(Limits::SINGLE, &[SINGLE_EVENTS, &["cause 3"]]);
 }

@@ -1,4 +1,4 @@
-//! The stored answers: the model gives them, and so does the reference where it is there.
+//! The stored answers: the model gives them, and so do the reference and the library where they are there.
 
 use compare::party::Party;
 use compare::stored::{STORED, replay};
@@ -27,6 +27,20 @@ fn the_reference_gives_the_stored_answers() {
     for (name, text) in STORED {
         let setup = read::sequence(text).expect("a transcript").setup;
         same(name, text, &mut reference::Reference::setup(&setup, true));
+    }
+}
+
+#[cfg(feature = "library")]
+#[test]
+fn the_library_gives_the_stored_answers() {
+    for (name, text) in STORED {
+        let setup = read::sequence(text).expect("a transcript").setup;
+        let library = compare::party::Library::setup(&setup);
+        same(
+            name,
+            text,
+            &mut library.expect("a setup that is not refused"),
+        );
     }
 }
 

@@ -9,13 +9,7 @@ use compare::text::{print, read};
 fn calls_are_read_back() {
     let mut shown = 0;
     for seed in 1..=300 {
-        let mut sequence = Sequence::begin(
-            seed,
-            Limits {
-                cursor_as_key: true,
-            },
-            |_| Vec::new(),
-        );
+        let mut sequence = Sequence::begin(seed, Limits::ALL, |_| Vec::new());
         let mut made: Vec<(At, Call)> = Vec::new();
         let mut text = print::setup(sequence.setup());
         for _ in 0..40 {

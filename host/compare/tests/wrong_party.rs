@@ -1,6 +1,6 @@
 //! The frame notices parties that are wrong in one thing, and shows few calls that tell.
 
-use calls::{Answer, At, Call, Setup, State};
+use calls::{Answer, At, Call, Outcome, Setup, State};
 use compare::coverage::Coverage;
 use compare::generate::{Limits, Sequence};
 use compare::party::Party;
@@ -21,6 +21,11 @@ enum Fault {
     OneByteLess,
     NeverRefuses,
     Panics,
+    SkipsOneMore,
+    ServesTheFirstKeyTwice,
+    RefusedStoresUntold,
+    KeepsWhatIsPushed,
+    OffsetOneOn,
 }
 
 impl Party for Wrong {
@@ -39,9 +44,29 @@ impl Party for Wrong {
         if let (Fault::NeverRefuses, Call::Resolve { room, .. }) = (self.fault, &mut call) {
             *room = usize::MAX;
         }
+        if let (Fault::KeepsWhatIsPushed, Call::Push { bytes }) = (self.fault, &mut call)
+            && calls::resp::parse(bytes).is_some()
+        {
+            *bytes = b">0\r\n".to_vec();
+        }
         let mut answer = self.model.call(at, &call);
-        if let (Fault::OneByteLess, Answer::Hit(value)) = (self.fault, &mut answer) {
-            value.pop();
+        match (self.fault, &mut answer) {
+            (Fault::OneByteLess, Answer::Hit(value)) => drop(value.pop()),
+            (Fault::SkipsOneMore, Answer::Planned { responses, .. }) => responses.0 += 1,
+            (Fault::ServesTheFirstKeyTwice, Answer::Planned { outcomes, .. }) => {
+                for outcome in outcomes {
+                    if let Outcome::CachedAll(values) = outcome
+                        && let Some(first) = values.first().cloned()
+                    {
+                        values.fill(first);
+                    }
+                }
+            }
+            (Fault::RefusedStoresUntold, Answer::Resolved { refused, .. }) => *refused = 0,
+            (Fault::OffsetOneOn, Answer::Refused(refusal)) => {
+                refusal.offset = refusal.offset.map(|offset| offset + 1);
+            }
+            _ => {}
         }
         Some(answer)
     }
@@ -65,13 +90,7 @@ fn wrong(setup: &Setup, fault: Fault) -> Vec<Box<dyn Party>> {
 /// The first failure that random sequences show, and the number of calls that it is brought down to.
 fn failure(followers: fn(&Setup) -> Vec<Box<dyn Party>>) -> usize {
     for seed in 1..=100 {
-        let mut sequence = Sequence::begin(
-            seed,
-            Limits {
-                cursor_as_key: true,
-            },
-            followers,
-        );
+        let mut sequence = Sequence::begin(seed, Limits::ALL, followers);
         for _ in 0..60 {
             let (at, call) = sequence.next_call();
             if let Err(text) = sequence.make(at, call, &mut Coverage::default()) {
@@ -93,6 +112,11 @@ fn a_wrong_party_is_noticed_with_few_calls() {
         failure(|setup| wrong(setup, Fault::OneByteLess)),
         failure(|setup| wrong(setup, Fault::NeverRefuses)),
         failure(|setup| wrong(setup, Fault::Panics)),
+        failure(|setup| wrong(setup, Fault::SkipsOneMore)),
+        failure(|setup| wrong(setup, Fault::ServesTheFirstKeyTwice)),
+        failure(|setup| wrong(setup, Fault::RefusedStoresUntold)),
+        failure(|setup| wrong(setup, Fault::KeepsWhatIsPushed)),
+        failure(|setup| wrong(setup, Fault::OffsetOneOn)),
     ];
     assert!(calls.iter().all(|&count| count <= 4), "{calls:?}");
     assert_eq!((calls[1], calls[5]), (1, 1));

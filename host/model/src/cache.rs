@@ -5,7 +5,7 @@ use crate::book::Book;
 use crate::plan::{self, Plan};
 use crate::push::{self, Invalidated};
 use crate::{config, layout, resolve};
-use calls::{Answer, At, Call, Entry, Refusal, Setup, State, Value, record, resp};
+use calls::{Answer, At, Call, Entry, Item, Refusal, Setup, State, Value, record, resp};
 
 /// The longest key of a single call.
 const MOST_KEY: usize = 65_535;
@@ -32,6 +32,13 @@ impl Model {
         })
     }
 
+    /// The cache of an arena that holds these rows, which are none that cause 9 refuses; the counts are the setup's.
+    pub fn of(setup: &Setup, shards: Vec<Vec<Item>>) -> Self {
+        let mut model = Model::setup(setup).expect("a setup that is not refused");
+        model.book.state.shards = shards;
+        model
+    }
+
     /// Makes a call.
     ///
     /// # Panics
@@ -45,7 +52,12 @@ impl Model {
         &self.book.state
     }
 
-    /// Sets the number that the next new epoch takes, to show that it wraps.
+    /// Takes a plan that its own planning did not write, to be resolved by the next number.
+    pub fn lend_plan(&mut self, plan: Plan) {
+        self.plans.push(plan);
+    }
+
+    /// Sets the number that the next new epoch takes.
     pub fn set_next_epoch(&mut self, next: u64) {
         self.book.state.next_epoch = next;
     }

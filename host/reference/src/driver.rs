@@ -117,6 +117,11 @@ impl Reference {
         found.map_or(Answer::Miss, |value| Answer::Hit(bytes(&value)))
     }
 
+    /// `ShardedLRU::get` alone, under the clock of the call before: whether it serves a value.
+    pub fn get(&self, key: &[u8], command: &[u8], epoch: usize) -> bool {
+        self.lru.get(key, command, epoch).is_some()
+    }
+
     /// `ShardedLRU::insert`.
     pub fn store(
         &mut self,

@@ -17,6 +17,7 @@ include!(concat!(env!("OUT_DIR"), "/tree.rs"));
 
 pub use contents::{commands_path, countdigits, is_cachable_cmd};
 pub use driver::Reference;
+pub use request::Request;
 
 // The names under which the sources find the rest of their crate.
 pub(crate) use cmd::Cmd;

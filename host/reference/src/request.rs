@@ -20,6 +20,21 @@ pub(crate) fn pipeline(record: &Record) -> Pipeline {
     pipeline
 }
 
+/// One command as the crate has it.
+pub struct Request(Cmd);
+
+impl Request {
+    /// The crate's command.
+    pub fn new(command: &Command) -> Self {
+        Request(cmd(command))
+    }
+
+    /// `Cmd::write_packed_command`.
+    pub fn write_packed_command(&self, dst: &mut Vec<u8>) {
+        self.0.write_packed_command(dst);
+    }
+}
+
 fn cmd(command: &Command) -> Cmd {
     let mut cmd = Cmd::new();
     for arg in &command.args {

@@ -4,8 +4,11 @@ use super::replies::Sent;
 use super::{Limits, setups};
 use crate::rng::Rng;
 use crate::sequence::Run;
-use calls::{Answer, At, Call, Setup, resp};
+use calls::{Answer, At, Call, Setup, Value, resp};
 use model::layout;
+
+/// The length of a buffer that is not short, but for the longest plans.
+const AMPLE: usize = 1 << 14;
 
 /// What the next call is drawn from.
 pub struct Generator {
@@ -45,6 +48,9 @@ impl Generator {
     pub(super) fn next_call(&mut self, run: &Run) -> (At, Call) {
         self.tick();
         let at = self.at();
+        if self.limits.single {
+            return (at, self.single());
+        }
         let call = match self.rng.below(100) {
             0..32 => self.plan(at, run),
             32..60 if !self.plans.is_empty() => self.resolve(at, run),
@@ -66,6 +72,27 @@ impl Generator {
             } => self.plans.push(Sent::read(sent, *responses)),
             _ => {}
         }
+    }
+
+    /// A single call. There are no new epochs among them: the epoch goes on by itself.
+    fn single(&mut self) -> Call {
+        if self.rng.chance(2) {
+            self.epoch = self.epoch.wrapping_add(1);
+        }
+        let mut call = match self.rng.below(100) {
+            0..45 => self.lookup(),
+            45..90 => self.store(),
+            _ => Call::Invalidate { key: self.key() },
+        };
+        if self.rng.chance(1) {
+            let (Call::Lookup { key, .. } | Call::Store { key, .. } | Call::Invalidate { key }) =
+                &mut call
+            else {
+                unreachable!("a single call");
+            };
+            *key = vec![b'k'; 65_535 + self.rng.below(2)];
+        }
+        call
     }
 
     /// The clock stands, goes on, leaps or goes back.
@@ -132,7 +159,7 @@ impl Generator {
 
     fn plan(&mut self, at: At, run: &Run) -> Call {
         let record = self.record();
-        let (mut send_room, mut plan_room) = (1 << 20, 1 << 20);
+        let (mut send_room, mut plan_room) = (AMPLE, AMPLE);
         if self.rng.chance(15) {
             let ample = Call::Plan {
                 record: record.clone(),
@@ -162,7 +189,7 @@ impl Generator {
         let sent = self.plans[plan].clone();
         let replies = resp::encode(&self.replies(&sent));
         let replies = self.damaged(replies);
-        let mut room = 1 << 20;
+        let mut room = AMPLE;
         if self.rng.chance(10) {
             let ample = Call::Resolve {
                 plan,
@@ -181,7 +208,12 @@ impl Generator {
     }
 
     fn store(&mut self) -> Call {
-        let value = resp::encode(&self.value(3));
+        let value = if self.rng.chance(15) {
+            Value::Blob(vec![b'v'; self.rng.below(400)])
+        } else {
+            self.value(3)
+        };
+        let value = resp::encode(&value);
         let expiry = match self.rng.below(10) {
             0..8 => self.clock.saturating_add(self.rng.of(&[0, 1, 5, 20, 100])),
             _ => self.rng.of(&[0, u64::MAX]),

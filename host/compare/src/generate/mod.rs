@@ -7,7 +7,7 @@ mod setups;
 mod values;
 
 use crate::coverage::Coverage;
-use crate::party::followers;
+use crate::party::{followers, followers_of_all};
 use crate::rng::Rng;
 use crate::sequence::Run;
 use crate::shrink::{Followers, shrink};
@@ -20,6 +20,36 @@ use model::Model;
 pub struct Limits {
     /// Commands with a cursor as key, on which the crate panics.
     pub cursor_as_key: bool,
+    /// Single calls alone, also past their limits.
+    pub single: bool,
+}
+
+impl Limits {
+    /// Every call.
+    pub const ALL: Limits = Limits {
+        cursor_as_key: true,
+        single: false,
+    };
+
+    /// Every call that the crate can be given.
+    pub const CRATE: Limits = Limits {
+        cursor_as_key: false,
+        single: false,
+    };
+
+    /// Single calls.
+    pub const SINGLE: Limits = Limits {
+        cursor_as_key: false,
+        single: true,
+    };
+
+    /// The parties that can be given these calls.
+    fn followers(self) -> Followers {
+        match self.cursor_as_key {
+            true => followers_of_all,
+            false => followers,
+        }
+    }
 }
 
 /// Runs the sequence of a seed with every party that there is; the error shows its shortest prefix that differs.
@@ -29,7 +59,7 @@ pub fn sequence(
     limits: Limits,
     coverage: &mut Coverage,
 ) -> Result<(), String> {
-    let mut sequence = Sequence::begin(seed, limits, followers);
+    let mut sequence = Sequence::begin(seed, limits, limits.followers());
     for _ in 0..calls {
         let (at, call) = sequence.next_call();
         sequence.make(at, call, coverage)?;

@@ -98,12 +98,10 @@ impl Generator {
             Some(b"PTTL") => match self.rng.below(20) {
                 0 => simple("1"),
                 1 => Value::Blob(b"5".to_vec()),
-                _ => {
-                    Value::Integer(
-                        self.rng
-                            .of(&[-2, -1, -1, -1, 0, 1, 5, 20, 100, 100, i64::MAX]),
-                    )
-                }
+                2 => self.value(2),
+                3 => Value::Attribute(Vec::new(), Box::new(Value::Integer(5))),
+                4 => Value::Integer(self.rng.of(&[i64::MIN, i64::MAX])),
+                _ => Value::Integer(self.rng.of(&[-2, -1, -1, -1, 0, 1, 5, 20, 100, 100])),
             },
             Some(b"MGET") => self.elements(command.len() - 1),
             Some(b"JSON.MGET") => self.elements(command.len().saturating_sub(2)),

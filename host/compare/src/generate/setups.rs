@@ -18,7 +18,7 @@ pub fn setup(rng: &mut Rng) -> Setup {
     let size = rng.of(&[1, 2, 2, 3, 3, 4, 31, 32, 32, 33, 63, 64, 96, 128]);
     let (shards, _) = config::shards(size);
     let arena = match rng.below(10) {
-        0..6 => 1 << 20,
+        0..6 => shards * 2048,
         6..8 => shards * (64 + rng.below(200) as u64) + rng.below(32) as u64,
         _ => shards * (200 + rng.below(600) as u64),
     };

@@ -1,8 +1,15 @@
 //! What the tests share: the parties that there are, and short ways to write calls.
 #![allow(dead_code)]
 
-use calls::{Answer, Arg, At, Call, Command, Counts, Record, Setup, record};
+pub mod damage;
+
+use calls::{Answer, Arg, At, Call, Command, Counts, Outcome, Record, Refusal, Setup, record};
+use compare::coverage::Coverage;
 use compare::party::{Party, followers};
+use compare::sequence::Run;
+
+/// A buffer that is not short.
+pub const AMPLE: usize = 1 << 14;
 
 /// A setup with ample space.
 pub fn setup(size: u64) -> Setup {
@@ -21,6 +28,21 @@ pub fn parties(setup: &Setup) -> Vec<Box<dyn Party>> {
     let mut parties: Vec<Box<dyn Party>> = vec![Box::new(model)];
     parties.extend(followers(setup));
     parties
+}
+
+/// Makes calls to every party; all must agree.
+pub fn agreed(setup: &Setup, calls: impl IntoIterator<Item = (At, Call)>) -> Vec<Answer> {
+    let mut run = Run::begin(setup, followers(setup));
+    let answers = calls.into_iter().map(|(at, call)| {
+        let answer = run.call(at, call, &mut Coverage::default());
+        answer.unwrap_or_else(|text| panic!("\n{text}"))
+    });
+    answers.collect()
+}
+
+/// A refusal for a cause that returns its number alone.
+pub fn refused(cause: u8) -> Answer {
+    Answer::Refused(Refusal::number(cause))
 }
 
 /// A call's clock, under epoch 0, mode All and default TTL 100.
@@ -59,8 +81,8 @@ pub fn plan(lines: &[&str]) -> Call {
 pub fn plan_record(record: &Record) -> Call {
     Call::Plan {
         record: record::encode(record),
-        send_room: 1 << 20,
-        plan_room: 1 << 20,
+        send_room: AMPLE,
+        plan_room: AMPLE,
     }
 }
 
@@ -69,7 +91,7 @@ pub fn resolve(plan: usize, replies: &str) -> Call {
     Call::Resolve {
         plan,
         replies: replies.into(),
-        room: 1 << 20,
+        room: AMPLE,
     }
 }
 
@@ -103,6 +125,15 @@ pub fn result(answer: Answer) -> String {
     match answer {
         Answer::Resolved { result, refused: 0 } => String::from_utf8(result).expect("text"),
         other => panic!("{other:?}"),
+    }
+}
+
+/// A planning that sends nothing.
+pub fn all_served(outcomes: Vec<Outcome>) -> Answer {
+    Answer::Planned {
+        sent: vec![],
+        responses: (0, 0),
+        outcomes,
     }
 }
 
