@@ -1,3 +1,4 @@
 pub mod Exported
+pub mod Pushed
 pub mod Resolved
 pub mod Planned

@@ -5,10 +5,9 @@ use crate::put_counts;
 use cache_manager::Pipelined;
 ghost use mathlib.Core.Path.{_≡_};
 ghost use Prim.Native.Nat.{ℕ};
-ghost use Rattle.single_calls.specs.Answers.{holding};
-ghost use Rattle.cache_manager.specs.Pipeline.{returnedOf, planCall};
-ghost use Rattle.caching.specs.Exported.{countsIn, countsList};
-ghost use Rattle.caching.specs.Planned.{refusedReturn, planReturn};
+ghost use Rattle.cache_manager.specs.Pipeline.{returnedOf};
+ghost use Rattle.caching.specs.Exported.{countsList};
+ghost use Rattle.caching.specs.Planned.{refusedReturn, planReturn, planBy};
 
 // What planning returns: 01's number of the cause that refuses it, or 0; cause 2's offset; how many bytes of the plan buffer and of the send buffer are
 // written; the response counts.
@@ -67,11 +66,11 @@ pub extern "C" fn redis_cache_plan(
     plan: &mut [u8],
     send: &mut [u8],
 ) -> RedisCachePlan
-    ensures answer { λ r. ⌜ ((next : ℕ) → r ≡ planReturn (planCall size mode ttl clock epoch (now (bytes .entry)) (now (plan .entry)) (now (send .entry)) (holding (now (arena .entry)) (countsIn (now (counts .entry))) next) .returned)) ⌝ }
-    ensures arena { λ _. ⌜ ((next : ℕ) → now (arena .exit) ≡ planCall size mode ttl clock epoch (now (bytes .entry)) (now (plan .entry)) (now (send .entry)) (holding (now (arena .entry)) (countsIn (now (counts .entry))) next) .held .arena) ⌝ }
-    ensures counts { λ _. ⌜ ((next : ℕ) → now (counts .exit) ≡ countsList (planCall size mode ttl clock epoch (now (bytes .entry)) (now (plan .entry)) (now (send .entry)) (holding (now (arena .entry)) (countsIn (now (counts .entry))) next) .held .counts)) ⌝ }
-    ensures plan { λ _. ⌜ ((next : ℕ) → now (plan .exit) ≡ planCall size mode ttl clock epoch (now (bytes .entry)) (now (plan .entry)) (now (send .entry)) (holding (now (arena .entry)) (countsIn (now (counts .entry))) next) .plan) ⌝ }
-    ensures send { λ _. ⌜ ((next : ℕ) → now (send .exit) ≡ planCall size mode ttl clock epoch (now (bytes .entry)) (now (plan .entry)) (now (send .entry)) (holding (now (arena .entry)) (countsIn (now (counts .entry))) next) .send) ⌝ }
+    ensures answer { λ r. ⌜ ((next : ℕ) → r ≡ planReturn (planBy size mode ttl clock epoch (now (bytes .entry)) (now (plan .entry)) (now (send .entry)) (now (arena .entry)) (now (counts .entry)) next .returned)) ⌝ }
+    ensures arena { λ _. ⌜ ((next : ℕ) → now (arena .exit) ≡ planBy size mode ttl clock epoch (now (bytes .entry)) (now (plan .entry)) (now (send .entry)) (now (arena .entry)) (now (counts .entry)) next .held .arena) ⌝ }
+    ensures counts { λ _. ⌜ ((next : ℕ) → now (counts .exit) ≡ countsList (planBy size mode ttl clock epoch (now (bytes .entry)) (now (plan .entry)) (now (send .entry)) (now (arena .entry)) (now (counts .entry)) next .held .counts)) ⌝ }
+    ensures plan { λ _. ⌜ ((next : ℕ) → now (plan .exit) ≡ planBy size mode ttl clock epoch (now (bytes .entry)) (now (plan .entry)) (now (send .entry)) (now (arena .entry)) (now (counts .entry)) next .plan) ⌝ }
+    ensures send { λ _. ⌜ ((next : ℕ) → now (send .exit) ≡ planBy size mode ttl clock epoch (now (bytes .entry)) (now (plan .entry)) (now (send .entry)) (now (arena .entry)) (now (counts .entry)) next .send) ⌝ }
 {
     let was = counts_in(counts);
     let r = cache_manager::get_cached_pipeline(

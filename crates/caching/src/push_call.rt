@@ -4,9 +4,8 @@ use crate::counts_in;
 use crate::put_counts;
 ghost use mathlib.Core.Path.{_≡_};
 ghost use Prim.Native.Nat.{ℕ};
-ghost use Rattle.push.specs.Push.{pushCall};
-ghost use Rattle.single_calls.specs.Answers.{holding};
-ghost use Rattle.caching.specs.Exported.{countsIn, countsList};
+ghost use Rattle.caching.specs.Exported.{countsList};
+ghost use Rattle.caching.specs.Pushed.{pushBy};
 
 // Does what a push asks for.
 #[no_mangle]
@@ -18,9 +17,9 @@ pub extern "C" fn redis_cache_push(
     bytes: &[u8],
     counts: &mut [u64; 3],
 ) -> u64
-    ensures answer { λ r. ⌜ ((next : ℕ) → r ≡ pushCall size mode ttl (now (bytes .entry)) (holding (now (arena .entry)) (countsIn (now (counts .entry))) next) .cause) ⌝ }
-    ensures arena { λ _. ⌜ ((next : ℕ) → now (arena .exit) ≡ pushCall size mode ttl (now (bytes .entry)) (holding (now (arena .entry)) (countsIn (now (counts .entry))) next) .held .arena) ⌝ }
-    ensures counts { λ _. ⌜ ((next : ℕ) → now (counts .exit) ≡ countsList (pushCall size mode ttl (now (bytes .entry)) (holding (now (arena .entry)) (countsIn (now (counts .entry))) next) .held .counts)) ⌝ }
+    ensures answer { λ r. ⌜ ((next : ℕ) → r ≡ pushBy size mode ttl (now (bytes .entry)) (now (arena .entry)) (now (counts .entry)) next .cause) ⌝ }
+    ensures arena { λ _. ⌜ ((next : ℕ) → now (arena .exit) ≡ pushBy size mode ttl (now (bytes .entry)) (now (arena .entry)) (now (counts .entry)) next .held .arena) ⌝ }
+    ensures counts { λ _. ⌜ ((next : ℕ) → now (counts .exit) ≡ countsList (pushBy size mode ttl (now (bytes .entry)) (now (arena .entry)) (now (counts .entry)) next .held .counts)) ⌝ }
 {
     let was = counts_in(counts);
     let r = push::handle_push(arena, size, mode, ttl, bytes, was);

@@ -3,9 +3,7 @@ use caching_cmd::ResolveAnswer;
 ghost use mathlib.Core.Path.{_≡_};
 ghost use Prim.Native.Nat.{ℕ};
 ghost use Rattle.book.specs.Book.{Counts};
-ghost use Rattle.single_calls.specs.Answers.{holding};
-ghost use Rattle.caching_cmd.specs.Call.{resolveCall};
-ghost use Rattle.caching.specs.Resolved.{resolveReturn};
+ghost use Rattle.caching.specs.Resolved.{resolveReturn, answerReturn, resolveBy};
 
 // What resolving returns: 01's number of the cause that refuses it, or 0; how many bytes of the answer buffer are the result; how many stores were
 // refused as 11.
@@ -17,7 +15,7 @@ pub struct RedisCacheResolve {
 }
 
 fn resolve_return(answer: ResolveAnswer) -> RedisCacheResolve
-    ensures { λ r. ⌜ r ≡ resolveReturn answer ⌝ }
+    ensures { λ r. ⌜ r ≡ answerReturn answer ⌝ }
 {
     match answer {
         ResolveAnswer::Answered(written, stores) => RedisCacheResolve {
@@ -46,9 +44,9 @@ pub extern "C" fn redis_cache_resolve<'a>(
     replies: &'a [u8],
     answer: &mut [u8],
 ) -> RedisCacheResolve
-    ensures answer { λ r. ⌜ ((lent : Counts) (next : ℕ) → r ≡ resolveReturn (resolveCall size mode ttl (now (plan .entry)) (now (replies .entry)) clock epoch (now (answer .entry)) (holding (now (arena .entry)) lent next) .answer)) ⌝ }
-    ensures arena { λ _. ⌜ ((lent : Counts) (next : ℕ) → now (arena .exit) ≡ resolveCall size mode ttl (now (plan .entry)) (now (replies .entry)) clock epoch (now (answer .entry)) (holding (now (arena .entry)) lent next) .held .arena) ⌝ }
-    ensures buffer { λ _. ⌜ ((lent : Counts) (next : ℕ) → now (answer .exit) ≡ resolveCall size mode ttl (now (plan .entry)) (now (replies .entry)) clock epoch (now (answer .entry)) (holding (now (arena .entry)) lent next) .buffer) ⌝ }
+    ensures answer { λ r. ⌜ ((lent : Counts) (next : ℕ) → r ≡ resolveReturn (resolveBy size mode ttl clock epoch (now (plan .entry)) (now (replies .entry)) (now (answer .entry)) (now (arena .entry)) lent next)) ⌝ }
+    ensures arena { λ _. ⌜ ((lent : Counts) (next : ℕ) → now (arena .exit) ≡ resolveBy size mode ttl clock epoch (now (plan .entry)) (now (replies .entry)) (now (answer .entry)) (now (arena .entry)) lent next .held .arena) ⌝ }
+    ensures buffer { λ _. ⌜ ((lent : Counts) (next : ℕ) → now (answer .exit) ≡ resolveBy size mode ttl clock epoch (now (plan .entry)) (now (replies .entry)) (now (answer .entry)) (now (arena .entry)) lent next .buffer) ⌝ }
 {
     resolve_return(caching_cmd::resolve(
         arena,

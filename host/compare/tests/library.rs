@@ -12,7 +12,7 @@ use compare::party::{Library, Party};
 use compare::rng::Rng;
 use model::plan::Plan;
 use model::{Model, config, layout};
-use redis_cache::{Cache, Cause, Settings};
+use redis_cache::{Cache, Cause, Counts, Now, Settings};
 
 #[test]
 fn setups_at_the_limits() {
@@ -55,6 +55,42 @@ fn numbers_wider_than_they_may_be_and_the_longest_arena() {
     let mut longest = Guarded::zeros((1 << 31) + 1, Side::Behind);
     assert_eq!(with(longest.bytes_mut(), 1, 0), refused);
     assert_eq!(with(&mut longest.bytes_mut()[..1 << 31], 1, 0), None);
+}
+
+/// Settings that are none are refused first in every call, whatever else is wrong with it.
+#[test]
+fn every_call_refuses_settings_that_are_none() {
+    let wrong = |size, mode| Settings {
+        size,
+        mode,
+        default_ttl: 0,
+    };
+    let wide = [1 << 16, 1 << 32, 1 << 63].map(|wide| [wrong(wide + 1, 0), wrong(1, wide)]);
+    let mut cases: Vec<_> = wide.concat().into_iter().map(|set| (set, 200)).collect();
+    cases.extend([(wrong(0, 0), 200), (wrong(1, 2), 200)]);
+    cases.extend([(wrong(1, 0), 63), (wrong(32, 0), 2047)]);
+    for (settings, length) in cases {
+        let mut arena = vec![1; length];
+        let mut cache = Cache {
+            arena: &mut arena,
+            settings,
+        };
+        let (now, mut counts) = (Now { clock: 0, epoch: 0 }, Counts::default());
+        let (mut plan, mut send) = ([2; 9], [2; 9]);
+        let planned = cache.plan(now, b"", &mut counts, &mut plan, &mut send);
+        let mut refused = vec![planned.err().map(|refused| refused.cause)];
+        refused.extend([
+            cache.resolve(now, b"", b"", &mut plan).err(),
+            cache.push(b"", &mut counts).err(),
+            cache.lookup(now, b"", b"", &mut counts).err(),
+            cache.store(0, b"", b"", b"", 0).err(),
+            cache.invalidate(b"", &mut counts).err(),
+            cache.setup().err(),
+        ]);
+        assert_eq!(refused, [Some(Cause::BadConfig); 7]);
+        assert_eq!((arena, plan, send), (vec![1; length], [2; 9], [2; 9]));
+        assert_eq!(counts, Counts::default());
+    }
 }
 
 /// The library over these bytes answers and leaves what the model does on the rows that they hold, or refuses them as 9 and

@@ -26,7 +26,7 @@ mod foreign;
 mod pipeline;
 
 pub use cause::Cause;
-pub use pipeline::{BadPlanning, Planned, Resolved, Responses};
+pub use pipeline::{PlanRefusal, Planned, Resolved, Responses};
 
 /// Every command that can be cached is.
 pub const MODE_ALL: u64 = 0;

@@ -32,7 +32,7 @@ pub struct Responses {
 
 /// Why a planning was refused.
 #[derive(Clone, Copy, Debug, PartialEq, Eq)]
-pub struct BadPlanning {
+pub struct PlanRefusal {
     /// The cause.
     pub cause: Cause,
     /// With [`Cause::BadRecord`], the first byte at which no valid record goes on as this one does, or the record's length where it
@@ -63,7 +63,7 @@ impl Cache<'_> {
         counts: &mut Counts,
         plan: &'a mut [u8],
         send: &'a mut [u8],
-    ) -> Result<Planned<'a>, BadPlanning> {
+    ) -> Result<Planned<'a>, PlanRefusal> {
         foreign::plan(self.arena, self.settings, now, record, counts, (plan, send))
     }
 

@@ -1,7 +1,7 @@
 //! A desk that keeps trap catches in the cache: what a host writes.
 
 use redis_cache::{
-    BadPlanning, Cache, Cause, Counts, Epochs, Looked, MODE_ALL, Now, Resolved, Responses,
+    Cache, Cause, Counts, Epochs, Looked, MODE_ALL, Now, PlanRefusal, Resolved, Responses,
     Settings, read_counts,
 };
 
@@ -177,7 +177,7 @@ fn refused_plannings_and_resolvings() {
 
     let cut = &get[..get.len() - 1];
     let refused = cache.plan(now, cut, &mut counts, &mut plan, &mut send);
-    let ends_early = BadPlanning {
+    let ends_early = PlanRefusal {
         cause: Cause::BadRecord,
         offset: Some(cut.len() as u64),
     };

@@ -2,6 +2,8 @@
 #![allow(dead_code)]
 
 pub mod damage;
+#[cfg(feature = "library")]
+pub mod judged;
 
 use calls::{Answer, Arg, At, Call, Command, Counts, Outcome, Record, Refusal, Setup, record};
 use compare::coverage::Coverage;

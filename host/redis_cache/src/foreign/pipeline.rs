@@ -1,7 +1,7 @@
 //! Planning, resolving and pushes. What is said above of every call holds here too; the plan, send and answer buffers are lent
 //! by `&mut`.
 
-use crate::{BadPlanning, Cause, Counts, Now, Planned, Resolved, Responses, Settings};
+use crate::{Cause, Counts, Now, PlanRefusal, Planned, Resolved, Responses, Settings};
 
 /// `redis_cache_plan_return` of the header.
 #[repr(C)]
@@ -81,7 +81,7 @@ pub(crate) fn plan<'a>(
     record: &[u8],
     counts: &mut Counts,
     (plan, send): (&'a mut [u8], &'a mut [u8]),
-) -> Result<Planned<'a>, BadPlanning> {
+) -> Result<Planned<'a>, PlanRefusal> {
     // SAFETY: arena, record, counts and the two buffers are lent as above.
     let planned = unsafe {
         redis_cache_plan(
@@ -101,7 +101,7 @@ pub(crate) fn plan<'a>(
             send.len(),
         )
     };
-    Cause::refuses(planned.cause).map_err(|cause| BadPlanning {
+    Cause::refuses(planned.cause).map_err(|cause| PlanRefusal {
         cause,
         offset: (cause == Cause::BadRecord).then_some(planned.at),
     })?;

@@ -16,19 +16,19 @@ use Rattle.caching.proofs.counts_in.Reads as counts-in-reads
 use Rattle.caching.proofs.plan_call.plan_return.Reads as plan-return-reads
 use Rattle.caching.proofs.put_counts.Reads as put-counts-reads
 
--- src/plan_call.rt:76:9
+-- src/plan_call.rt:75:15
 counts-in-requires : tie.Need-counts-in-requires
 counts-in-requires c κs = search needs
 
--- src/plan_call.rt:77:9
+-- src/plan_call.rt:76:13
 get-cached-pipeline-requires : tie.Need-get-cached-pipeline-requires
 get-cached-pipeline-requires c κs = search needs
 
--- src/plan_call.rt:90:5
+-- src/plan_call.rt:89:5
 put-counts-requires : tie.Need-put-counts-requires
 put-counts-requires c κs = search needs
 
--- src/plan_call.rt:91:5
+-- src/plan_call.rt:90:5
 plan-return-requires : tie.Need-plan-return-requires
 plan-return-requires c κs = search needs
 

@@ -16,27 +16,27 @@ use Rattle.caching.proofs.counts_in.Reads as counts-in-reads
 use Rattle.caching.proofs.put_counts.Reads as put-counts-reads
 use Rattle.push.proofs.handle_push.Reads as handle-push-reads
 
--- src/push_call.rt:25:15
+-- src/push_call.rt:24:15
 counts-in-requires : tie.Need-counts-in-requires
 counts-in-requires c κs = search needs
 
--- src/push_call.rt:26:13
+-- src/push_call.rt:25:13
 handle-push-requires : tie.Need-handle-push-requires
 handle-push-requires c κs = search needs
 
--- src/push_call.rt:28:5
+-- src/push_call.rt:27:5
 put-counts-requires : tie.Need-put-counts-requires
 put-counts-requires c κs = search needs
 
--- src/push_call.rt:29:5
+-- src/push_call.rt:28:5
 answer-number-requires : tie.Need-answer-number-requires
 answer-number-requires c κs = search needs
 
--- src/push_call.rt:13:1
+-- src/push_call.rt:12:1
 same-length : tie.Need-same-length
 same-length c = search needs
 
--- src/push_call.rt:13:1
+-- src/push_call.rt:12:1
 returns : tie.Need-returns
 returns c =
     let a = c .before .before .before .before .before .before .before .before .before .before .before .args in
