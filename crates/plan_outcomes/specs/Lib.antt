@@ -1,2 +1,3 @@
 pub mod Outcomes
 pub mod Law
+pub mod Served
