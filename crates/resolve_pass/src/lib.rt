@@ -136,14 +136,14 @@ pub fn answer_pass<'a>(
     requires { ⌜ Begins (now plan) (now list) from × Fine (now plan) (now list) from mode clock at (length (now out)) ⌝ }
     ensures { λ r. ⌜ AnswerIs (now (plan .entry)) (now (list .entry)) from mode clock at r (now (out .entry)) (now (out .exit)) ⌝ }
 {
-    let mut c = from;
+    let mut w = from;
     let mut i = at;
-    while c.at < plan.len() {
-        let t = resolve_step::step_at(plan, list, c, mode, clock);
+    while w.at < plan.len() {
+        let t = resolve_step::step_at(plan, list, w, mode, clock);
         let next = t.next;
         i = write_next(plan, list, next, out, i);
         let d = t.walk;
-        c = d;
+        w = d;
     }
     i
 }
