@@ -5,3 +5,4 @@ pub mod Fit
 pub mod Passed
 pub mod Records
 pub mod Call
+pub mod Means
