@@ -1,5 +1,5 @@
--- The calls that the book can be told of: what holds of a refused call and of the book's calls of a kind holds of the call that any arguments of that kind make.
--- Assumes nothing.
+-- The calls that the book can be told of: what holds of a refused call and of the book's calls of a kind holds of the call that any arguments of that kind
+-- make. Assumes nothing.
 use Prim.Native.Nat.{ℕ}
 use mathlib.Core.Bool.{Bool}
 use mathlib.Core.Option.{Option, some}

@@ -1,5 +1,5 @@
--- What calls do not see: all but a new epoch are not given the next number, a store and a resolving no counts either, and the book's calls for them leave these as they were. Assumes of
--- stores that the counts are of 64 bits.
+-- What calls do not see: all but a new epoch are not given the next number, a store and a resolving no counts either, and the book's calls for them leave
+-- these as they were. Assumes of stores that the counts are of 64 bits.
 use mathlib.Core.Path.{_≡_, refl, sym, ap, _∙_, subst}
 use Prim.Native.Nat.{ℕ}
 use mathlib.Core.Bool.{Bool}
@@ -148,4 +148,5 @@ module _ (p : Setup) (bk : Book) (w : Counted (bk .counts)) where
 pub arena-held : (p : Setup) (n : ℕ) (c : Call) (bk : Book) → Free p (bk .next) bk c → afterCall p c bk .counts ≡ bk .counts
     → withArena (lend p n (afterCall p c bk) .arena) (lend p n bk) ≡ lend p n (afterCall p c bk)
 unfolding lend
-arena-held p n c bk free counts = λ i. record { arena = encode p n (afterCall p c bk .rows); counts = sym counts i; next = sym (ap (λ (z : Book). z .next) free) i }
+arena-held p n c bk free counts =
+    λ i. record { arena = encode p n (afterCall p c bk .rows); counts = sym counts i; next = sym (ap (λ (z : Book). z .next) free) i }

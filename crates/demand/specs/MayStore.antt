@@ -1,4 +1,5 @@
--- What a call stores may be stored: the book's calls for given calls keep the limits of what a shard can hold. Assumes of the calls what the types of their parameters say.
+-- What a call stores may be stored: the book's calls for given calls keep the limits of what a shard can hold. Assumes of the calls what the types of their
+-- parameters say.
 use Prim.Native.Nat.{ℕ}
 use mathlib.Core.Bool.{Bool}
 use mathlib.Core.List.{List, [], _∷_}

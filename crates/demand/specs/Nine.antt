@@ -1,5 +1,5 @@
--- Cause 9 over the exported functions (`CauseNine`): a call that cause 1 lets through is refused as 9 exactly if no sequence of real calls from a setup of this size and arena length
--- leaves its arena. An image is left by single stores, one for each entry. Assumes that the arena's bytes are bytes.
+-- Cause 9 over the exported functions (`CauseNine`): a call that cause 1 lets through is refused as 9 exactly if no sequence of real calls from a setup of
+-- this size and arena length leaves its arena. An image is left by single stores, one for each entry. Assumes that the arena's bytes are bytes.
 use mathlib.Core.Path.{_≡_, refl, sym, ap, ap₂, _∙_, fun-ext, subst}
 use mathlib.Core.Logic.{_≢_}
 use Prim.Native.Nat.{ℕ, _^_, _<_}
@@ -59,9 +59,10 @@ module _ (size : ℕ) (h : Held) where
   p = setupWith size n
 
   -- where it is none
-  gives-nine : (c : RealCall) → LentArena c → refused size (modeIn c) n ≡ false → decode isValue p (h .arena) ≡ none → causeOf (step size c h .return) ≡ badArena
-  unfolding causeOf step modeIn setupWith settingsOf plannings.planCall plannings.configured plannings.imaged plannings.causeOf resolvings.resolveCall resolvings.configured
-      resolvings.imaged one.singleCall one.configured one.imaged pushes.pushCall pushes.configured pushes.imaged
+  gives-nine : (c : RealCall) → LentArena c → refused size (modeIn c) n ≡ false → decode isValue p (h .arena) ≡ none
+      → causeOf (step size c h .return) ≡ badArena
+  unfolding causeOf step modeIn setupWith settingsOf plannings.planCall plannings.configured plannings.imaged plannings.causeOf resolvings.resolveCall
+      resolvings.configured resolvings.imaged one.singleCall one.configured one.imaged pushes.pushCall pushes.configured pushes.imaged
   gives-nine (planning m d t e bytes plan send) a f q = rw (is-fine size n m d f) (rw q)
   gives-nine (resolving m d t e plan replies answer) a f q = rw (is-fine size n m d f) (rw q)
   gives-nine (push m d bytes) a f q = rw (is-fine size n m d f) (rw q)

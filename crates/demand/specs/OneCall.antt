@@ -1,5 +1,5 @@
--- One call: a real call on the bytes of a book is the book's call, its whole return and what is held then. Assumes that size and arena length make shards that stand in the arena, that
--- the rows are well-formed, and for what a store or a resolving leaves that the counts are of 64 bits.
+-- One call: a real call on the bytes of a book is the book's call, its whole return and what is held then. Assumes that size and arena length make shards
+-- that stand in the arena, that the rows are well-formed, and for what a store or a resolving leaves that the counts are of 64 bits.
 use mathlib.Core.Path.{_≡_, ap, _∙_}
 use Prim.Native.Nat.{ℕ}
 use mathlib.Core.Bool.{false}

@@ -68,7 +68,8 @@ unfolding wants outcome places
 command-places c nothing said ns = unfold placesIn nodesOf in refl
 command-places c uncacheable said ns = unfold placesIn nodesOf in refl
 command-places c (oneKey k x) said ns = one-place x ns (place said (wholeKey c k))
-command-places c (severalKeys n ks path x) said ns = several-places x ns n path (places said (partKeys n path ks)) (missing (places said (partKeys n path ks))) refl
+command-places c (severalKeys n ks path x) said ns =
+    several-places x ns n path (places said (partKeys n path ks)) (missing (places said (partKeys n path ks))) refl
 
 -- places of some keys and then others, each with its own answers
 none-split : (vs ws : List Wanted) → places [] vs ++ places [] ws ≡ places [] (vs ++ ws)

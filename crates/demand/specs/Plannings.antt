@@ -1,5 +1,5 @@
--- A planning that passes: what then holds of its record, of the book's reply and of what it returns; and that the plan that it returns reads back as its outcomes. Assumes for the last that
--- the rows are well-formed, as those of every book that calls leave are.
+-- A planning that passes: what then holds of its record, of the book's reply and of what it returns; and that the plan that it returns reads back as its
+-- outcomes. Assumes for the last that the rows are well-formed, as those of every book that calls leave are.
 use mathlib.Core.Path.{_≡_, refl, sym, ap, _∙_, subst}
 use Prim.Native.Nat.{ℕ, _≤_, zero-le}
 use native.Mathlib.Omega.{arith}
@@ -134,7 +134,9 @@ module _ (g : Settings) (t e : ℕ) (bytes d f : Bytes) (p : Setup) (bk : Book) 
 
     -- and its places
     pub gots-places : gotsOf r ≡ placesIn (nodes results)
-    gots-places = ap gotsOf (x .return) ∙ shown ∙ ap placesOf (ap (λ (z : Return). decodePlan (planBytes z)) (sym (x .return)) ∙ plan-decoded) ∙ (unfold placesOf planOf in refl)
+    gots-places =
+        ap gotsOf (x .return) ∙ shown ∙ ap placesOf (ap (λ (z : Return). decodePlan (planBytes z)) (sym (x .return)) ∙ plan-decoded)
+        ∙ (unfold placesOf planOf in refl)
       where
         shown : gotsOf (written said) ≡ placesOf (decodePlan (planBytes (written said)))
         shown = unfold gotsOf planBytes plannings.causeOf in refl

@@ -1,5 +1,5 @@
--- The clause `reported`: a resolving reports as many stores as the space rule refuses, and no other call reports any. Assumes that setup was not refused, and that the call's return is the
--- book's reply's (`answers`).
+-- The clause `reported`: a resolving reports as many stores as the space rule refuses, and no other call reports any. Assumes that setup was not refused,
+-- and that the call's return is the book's reply's (`answers`).
 use mathlib.Core.Path.{_≡_, refl, ap, _∙_}
 use Prim.Native.Nat.{ℕ}
 use mathlib.Core.Bool.{Bool}
@@ -145,4 +145,5 @@ module _ (size mode ttl : ℕ) (s : Bytes) (lent : Counts) (set-up : setupBy siz
       ≡ lackingIn (setup size mode ttl s lent) (told size mode ttl s lent (a .call)) (bookBefore size mode ttl s lent a)
   reported-field =
       ap reportedBy is
-      ∙ reported-for size (length s) (setup size mode ttl s lent) (setup-proper size mode ttl s lent set-up) lent (bookCalls size (length s) (a .before)) (a .call)
+      ∙ reported-for size (length s) (setup size mode ttl s lent) (setup-proper size mode ttl s lent set-up) lent
+      (bookCalls size (length s) (a .before)) (a .call)

@@ -1,5 +1,5 @@
--- What a call that passes shows of its lookups is the book's reply, event by event: a value for each hit, nothing for all else. Assumes that the rows before the call are well-formed, as those
--- of every book that calls leave are.
+-- What a call that passes shows of its lookups is the book's reply, event by event: a value for each hit, nothing for all else. Assumes that the rows
+-- before the call are well-formed, as those of every book that calls leave are.
 use mathlib.Core.Path.{_≡_, refl, sym, ap, _∙_}
 use Prim.Native.Nat.{ℕ}
 use native.Mathlib.Omega.{arith}
