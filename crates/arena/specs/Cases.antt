@@ -1,4 +1,4 @@
--- Worked cases of the layout and of what is an image, each a theorem by itself, by computing. They lean on Layout.antt and Decode.antt alone,
+-- Worked cases of the layout and of what is an image, each a theorem by itself, by computing. They lean on Layout.antt, Decode.antt and Place.antt alone,
 -- so that a wrong definition there fails here first.
 use mathlib.Core.Path.{_≡_, refl}
 use Prim.Native.Nat.{ℕ, _+_, _%_}
@@ -11,13 +11,15 @@ use Rattle.buffer.specs.Field.{le, readLe}
 use Rattle.buffer.specs.Part.{part, put}
 use Rattle.book.specs.Book.{Setup, Entry, Item, Row, book-defs}
 use Rattle.arena.specs.Layout.{zeros, head, itemHead, encEntry, encEntries, encItem, encItems, encShard, encShards, encode}
+use Rattle.arena.specs.Place.{entriesPlace, itemsPlace, shardPlace, arenaPlace}
 use Rattle.arena.specs.Decode.{readEntry, readEntries, readItem, readItems, readShard, readArena, every, distinctKeys, distinctCommands, mayStore, itemFits, itemFine, rowFine, rowsFine, isImage, decode}
 
 -- one name that opens both pages
 unfoldable arena-defs : Unit {0}
 unfolding
     book-defs le readLe part put head itemHead encEntry encEntries encItem encItems encShard encShards encode readEntry readEntries readItem readItems readShard
-    readArena every distinctKeys distinctCommands mayStore itemFits itemFine rowFine rowsFine isImage decode
+    readArena every distinctKeys distinctCommands mayStore itemFits itemFine rowFine rowsFine isImage decode entriesPlace itemsPlace shardPlace
+    arenaPlace
 arena-defs = tt
 
 -- ---- the layout, byte by byte
@@ -127,6 +129,23 @@ read-entries = refl
 read-other : readArena two (arena []) 1 ≡ item a 3 5 (entry get u ∷ []) ∷ []
 unfolding case-defs
 read-other = refl
+
+-- ---- places of values
+
+-- the second entry's value: behind the shard's header, its item's head and key, the entry before it, its own head and command key. There it is read
+pub place-second : let row : Row = item b 7 9 (entry get u ∷ entry len (43 ∷ []) ∷ []) ∷ [] in
+    (shardPlace b len row ≡ 16 + 33 + 22 + 17) × (part (encShard 130 row) 88 1 ≡ 43 ∷ [])
+unfolding arena-defs
+place-second = (refl, refl)
+
+-- behind another item, and in the other shard
+place-behind : arenaPlace two (100 ∷ []) get (rows (item b 7 9 (entry len u ∷ []) ∷ item (100 ∷ []) 7 9 (entry get u ∷ []) ∷ [])) ≡ 16 + 54 + 33 + 18
+unfolding case-defs
+place-behind = refl
+
+place-other : (arenaPlace two a get (rows []) ≡ 130 + 16 + 33 + 18) × (part (arena []) 197 4 ≡ u)
+unfolding case-defs
+place-other = (refl, refl)
 
 -- ---- one byte changed
 

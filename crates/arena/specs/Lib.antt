@@ -1,5 +1,6 @@
 pub mod Layout
 pub mod Decode
+pub mod Place
 pub mod Cases
 pub mod All
 pub mod Length
@@ -7,6 +8,7 @@ pub mod Read
 pub mod Around
 pub mod Tests
 pub mod Image
+pub mod PlaceLaws
 pub mod Empty
 pub mod Keeps
 pub mod Sequence
