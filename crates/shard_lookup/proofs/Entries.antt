@@ -16,6 +16,7 @@ use Rattle.arena.specs.Length.{length-itemHead, length-entry, length-entries, l
 use Rattle.arena.specs.Pieces.{encEntries-append, entryBytes-append}
 use Rattle.arena.specs.Read.{command-length, value-length, entry-command, entry-value}
 use Rattle.arena.specs.Edit.{itemBytes}
+use Rattle.arena.specs.Place.{entriesPlace}
 use Rattle.shard.specs.declared.Position.the-variants.{At, Absent}
 use Rattle.shard_lookup.specs.declared.Reading.the-variants.{Value}
 use Rattle.shard_lookup.specs.Looked.{Reads}
@@ -144,17 +145,18 @@ pub record CommandAt (from : ℕ) (c : Bytes) (ens : List Entry) (at : ℕ) : Ty
   pub splits : ens ≡ front ++ (entry ∷ back)
   pub serves : valueFor c ens ≡ some (entry .value)
   pub place : at ≡ from + entryBytes front
+  pub value-place : entriesPlace c ens ≡ entryBytes front + (16 + length (entry .command))
   pub set : (v : Bytes) → setValue c v ens ≡ front ++ (record { command = c; value = v } ∷ back)
 
 pub command-at : (from : ℕ) (c : Bytes) (ens : List Entry) (at : ℕ) → entryFrom from c ens ≡ At at → CommandAt from c ens at
-unfolding entryFrom valueFor setValue entryBytes
+unfolding entryFrom valueFor setValue entryBytes entriesPlace
 command-at from c [] at e = let z : _≡_ {A = ℕ} 0 1 = cc in absurd (omega arith)
 command-at from c (en ∷ ens) at e =
     byTest (same c (en .command))
     (λ q.
     let a : At from ≡ At at = rw q at e in
     let b : from ≡ at = cc in
-    record { front = []; entry = en; back = ens; splits = refl; serves = rw q; place = omega arith; set = λ v. rw q })
+    record { front = []; entry = en; back = ens; splits = refl; serves = rw q; place = omega arith; value-place = rw q (omega arith); set = λ v. rw q })
     (λ q.
     let was : CommandAt _ c ens at = command-at _ c ens at (rw q at e) in
     let w = was .place in
@@ -165,6 +167,7 @@ command-at from c (en ∷ ens) at e =
       splits = ap (λ (z : List Entry). en ∷ z) (was .splits);
       serves = rw q (was .serves);
       place = omega arith;
+      value-place = let h = was .value-place in rw q (omega arith);
       set = λ v. rw q (ap (λ (z : List Entry). en ∷ z) (was .set v));
     })
 
@@ -189,6 +192,7 @@ value-at {s} {at} {e} {front} {back} {it} {c} w q =
             r,
             subst (λ (i : ℕ). skip + i ≤ itemBytes it) (sym m) (v .0),
             g .serves ∙ ap some (sym (ap (λ (i : ℕ). part (encItem it) skip i) m ∙ v .1)),
+            let h = g .value-place in omega arith,
           );
     }
 

@@ -10,9 +10,12 @@ use borrow.Author.Tests.{eq-eqb, ne-eqb, le-leb, lt-leb}
 use Rattle.buffer.specs.Same.{Bytes}
 use Rattle.buffer.specs.Part.{part}
 use Rattle.book.specs.Book.{Item, Row, Effect, hit, miss, plus, find, without, valueFor, current, serve, lookupItem}
+use Rattle.book.specs.Rows.{found-key}
 use Rattle.arena.specs.Layout.{encItem, encShard}
 use Rattle.arena.specs.Length.{length-item}
 use Rattle.arena.specs.Edit.{itemBytes}
+use Rattle.arena.specs.Place.{entriesPlace, shardPlace}
+use Rattle.arena.specs.PlaceLaws.{place-first}
 use Rattle.shard_lookup.specs.declared.Looked.the-variants.{Hit, Miss}
 use Rattle.shard_lookup.specs.Looked.{Told}
 use Rattle.shard.proofs.Fields.{Pieces}
@@ -81,3 +84,11 @@ tells-hit {s} {at} {it} p f row skip len from to h e a b =
     let v : part s from (to - from) ≡ part (encItem it) skip len =
     ap (λ (i : ℕ). part s from i) d ∙ ap (λ (i : ℕ). part s i len) a ∙ part-item p skip len h in
     (omega arith, omega arith, ap (λ (g : Effect). g .answer) e ∙ ap hit (sym v), ap (λ (g : Effect). g .adds) e)
+
+-- it begins where the row left has it, the key's item being the first there
+pub begins-first : (k c : Bytes) (f : Effect) (it : Item) (row rest : Row) (v : Bytes) (skip from : ℕ) → find k row ≡ some it → f ≡ served (it ∷ rest) v
+    → skip ≡ 32 + length (it .key) + entriesPlace c (it .entries) → from ≡ 16 + skip → from ≡ shardPlace k c (f .row)
+begins-first k c f it row rest v skip from i e q a =
+    let p = place-first k c it rest (found-key k row it i) in
+    let r : shardPlace k c (f .row) ≡ shardPlace k c (it ∷ rest) = ap (λ (g : Effect). shardPlace k c (g .row)) e in
+    omega arith

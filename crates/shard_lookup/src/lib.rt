@@ -9,10 +9,11 @@ ghost use lib.ListN.{length};
 ghost use Rattle.buffer.specs.Same.{same};
 ghost use Rattle.book.specs.Book.{Entry, Item, Row};
 ghost use Rattle.arena.specs.Layout.{encShard};
+ghost use Rattle.arena.specs.Place.{shardPlace};
 ghost use Rattle.command_key.specs.Key.{keyBytes, KeyIn};
 ghost use Rattle.shard.specs.Holds.{Holds, Shard, Stands, ItemAt};
 ghost use Rattle.shard_lookup.specs.Entries.{entrySize, entryOf, EntryStands, EntryAt};
-ghost use Rattle.shard_lookup.specs.Looked.{Reads, lookupOn, Told};
+ghost use Rattle.shard_lookup.specs.Looked.{Reads, lookupOn, Told, BeginsAt};
 
 // The bytes that the entry at `at` takes.
 pub fn entry_len(s: &[u8], at: usize) -> usize
@@ -125,7 +126,8 @@ pub fn peek_in(
     }
 }
 
-// Looks the command key's value up under the key: an item that is not current is dropped, another becomes the newest.
+// Looks the command key's value up under the key: an item that is not current is dropped, another becomes the newest. A hit's bytes are the entry's own, in the row
+// that is left.
 pub fn lookup_in(
     s: &mut [u8],
     key: &[u8],
@@ -135,7 +137,7 @@ pub fn lookup_in(
     epoch: u64,
 ) -> Looked
     requires { ⌜ Shard (now s) × KeyIn (now source) command ⌝ }
-    ensures { λ r. ⌜ ((row : Row) → Holds (now (s .entry)) row → (now (s .exit) ≡ encShard (length (now (s .entry))) (lookupOn (now (key .entry)) (keyBytes (now (source .entry)) command) clock epoch row .row)) × Told (now (s .exit)) (lookupOn (now (key .entry)) (keyBytes (now (source .entry)) command) clock epoch row) r) ⌝ }
+    ensures { λ r. ⌜ ((row : Row) → Holds (now (s .entry)) row → (now (s .exit) ≡ encShard (length (now (s .entry))) (lookupOn (now (key .entry)) (keyBytes (now (source .entry)) command) clock epoch row .row)) × Told (now (s .exit)) (lookupOn (now (key .entry)) (keyBytes (now (source .entry)) command) clock epoch row) r × BeginsAt (shardPlace (now (key .entry)) (keyBytes (now (source .entry)) command) (lookupOn (now (key .entry)) (keyBytes (now (source .entry)) command) clock epoch row .row)) r) ⌝ }
 {
     let Position::At(at) = shard::find(s, key) else {
         return Looked::Miss(0);

@@ -1,5 +1,5 @@
 -- What each function of one shard brings back, as what the function over all shards ensures. Assumes nothing more than `Lent`.
-use mathlib.Core.Path.{_≡_, sym, subst}
+use mathlib.Core.Path.{_≡_, sym, ap, _∙_, subst}
 use Prim.Native.Nat.{ℕ, _+_, _-_, _*_, _^_, _<_}
 use native.Mathlib.Omega.{arith}
 use mathlib.Core.Bool.{Bool, true, cond}
@@ -10,13 +10,15 @@ use Rattle.config.specs.declared.Settings.{Settings}
 use Rattle.siphash.specs.Shard.{shardOf}
 use Rattle.resp3.specs.Ends.{isValue}
 use Rattle.book.specs.Book.{Row, stored, noSpace, lookup, store, on, keyOf, effectOn}
+use Rattle.book.specs.Trace.{row-here}
 use Rattle.arena.specs.Layout.{encShard}
 use Rattle.arena.specs.Sizes.{setupOf}
-use Rattle.shard_lookup.specs.Looked.{lookupOn, Told}
+use Rattle.arena.specs.Place.{shardPlace, arenaPlace}
+use Rattle.shard_lookup.specs.Looked.{lookupOn, Told, BeginsAt}
 use Rattle.shard_lookup.specs.declared.Looked.{Looked}
 use Rattle.shard_store.specs.Store.{storeOn, Leaves, Storable}
 use Rattle.sharded_lru.specs.Lent.{setupNow, Lent, effectIn, rowsAfter}
-use Rattle.sharded_lru.specs.Placed.{placedAt, Within, told-within, told-placed}
+use Rattle.sharded_lru.specs.Placed.{placedAt, Within, told-within, told-placed, begins-placed}
 use Rattle.sharded_lru.specs.Keeps.{may-store}
 use Rattle.sharded_lru.proofs.Parts.{lentPart, backPart, back-put, home-ends, key-long, key-back-long, key-back}
 
@@ -38,7 +40,9 @@ module _ (g : Settings) (s : Bytes) (rows : ℕ → Row) (w : Lent g s rows) (k 
 
   -- a lookup left the bytes u and answered r
   abbrev Looks : Bytes → Looked → Type 0
-  Looks u r = (u ≡ encShard (length (lentPart g s from)) (lookupOn k c t e (rows (shardOf k (g .shards))) .row)) × Told u (lookupOn k c t e (rows (shardOf k (g .shards)))) r
+  Looks u r =
+      (u ≡ encShard (length (lentPart g s from)) (lookupOn k c t e (rows (shardOf k (g .shards))) .row)) × Told u (lookupOn k c t e (rows (shardOf k (g .shards)))) r
+      × BeginsAt (shardPlace k c (lookupOn k c t e (rows (shardOf k (g .shards))) .row)) r
 
   looks-long : (u : Bytes) (r : Looked) → Looks u r → length u ≡ g .bytes
   unfolding effectOn setupOf keyOf
@@ -48,10 +52,18 @@ module _ (g : Settings) (s : Bytes) (rows : ℕ → Row) (w : Lent g s rows) (k 
   told-back u r l =
       subst (λ (n : ℕ). Within n r) (looks-long u r l) (told-within u (lookupOn k c t e (rows (shardOf k (g .shards)))) r (l .1))
 
+  -- a place in the shard's row that it leaves, as a place in all rows that it leaves
+  place-back : from + shardPlace k c (lookupOn k c t e (rows (shardOf k (g .shards))) .row) ≡ arenaPlace (setupNow g) k c (rowsAfter (setupNow g) (on (lookup k c t e)) rows)
+  unfolding effectOn setupOf keyOf rowsAfter arenaPlace
+  place-back =
+      ap (λ (i : ℕ). i + shardPlace k c (lookupOn k c t e (rows (shardOf k (g .shards))) .row)) a
+      ∙ ap (λ (row : Row). shardOf k (g .shards) * g .bytes + shardPlace k c row) (sym (row-here (shardOf k (g .shards)) _ rows))
+
   -- with places in the arena that it leaves
   pub lookup-back : (u : Bytes) (r : Looked) → Looks u r
       → Lent g (backPart g s from u) (rowsAfter (setupNow g) (on (lookup k c t e)) rows)
       × Told (backPart g s from u) (effectIn (setupNow g) (lookup k c t e) rows) (placedAt from r)
+      × BeginsAt (arenaPlace (setupNow g) k c (rowsAfter (setupNow g) (on (lookup k c t e)) rows)) (placedAt from r)
   unfolding effectOn setupOf keyOf
   lookup-back u r l =
       let f = effectIn (setupNow g) (lookup k c t e) rows in
@@ -62,6 +74,7 @@ module _ (g : Settings) (s : Bytes) (rows : ℕ → Row) (w : Lent g s rows) (k 
         key-back g s rows w (lookup k c t e) from a tt u (l .0),
         subst (λ (y : Bytes). Told y f (placedAt from r)) (sym b)
             (told-placed (put s from u) u from f r (omega arith) (λ i j h. part-put-inside s u from i j (omega arith) h) (l .1)),
+        subst (λ (i : ℕ). BeginsAt i (placedAt from r)) place-back (begins-placed from _ r (l .2)),
       )
 
 module _ (g : Settings) (s : Bytes) (rows : ℕ → Row) (w : Lent g s rows) where

@@ -6,7 +6,7 @@ use lib.ListN.{length}
 use Rattle.buffer.specs.Same.{Bytes}
 use Rattle.buffer.specs.Part.{part}
 use Rattle.book.specs.Book.{Effect, hit}
-use Rattle.shard_lookup.specs.Looked.{Told}
+use Rattle.shard_lookup.specs.Looked.{Told, BeginsAt}
 use Rattle.shard_lookup.specs.declared.Looked.{Looked}
 use Rattle.shard_lookup.specs.declared.Looked.the-variants.{Hit, Miss}
 
@@ -37,3 +37,8 @@ told-placed s t start f (Hit from to) h e w =
       w .3,
     )
 told-placed s t start f (Miss n) h e w = w
+
+-- what begins at a place of the shard begins so far behind the shard's start
+pub begins-placed : (start at : ℕ) (r : Looked) → BeginsAt at r → BeginsAt (start + at) (placedAt start r)
+begins-placed start at (Hit from to) e = ap (λ (n : ℕ). start + n) e
+begins-placed start at (Miss n) e = tt

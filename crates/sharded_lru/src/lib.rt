@@ -13,8 +13,9 @@ ghost use Rattle.config.specs.Limits.{maxArena};
 ghost use Rattle.resp3.specs.Ends.{isValue};
 ghost use Rattle.siphash.specs.Shard.{shardOf};
 ghost use Rattle.book.specs.Book.{Row, stored, noSpace, plus, lookup, store, invalidate, on, invalidateAll, allEntries};
+ghost use Rattle.arena.specs.Place.{arenaPlace};
 ghost use Rattle.command_key.specs.Key.{keyBytes, KeyIn};
-ghost use Rattle.shard_lookup.specs.Looked.{Told};
+ghost use Rattle.shard_lookup.specs.Looked.{Told, BeginsAt};
 ghost use Rattle.shard_store.specs.Store.{Storable};
 ghost use Rattle.sharded_lru.specs.Lent.{setupNow, Lent, Arena, effectIn, rowsAfter};
 ghost use Rattle.sharded_lru.specs.Admit.{admitted};
@@ -84,7 +85,7 @@ pub fn peek(
     placed(start, g.bytes, found)
 }
 
-// Looks the command key's value up under the key. A hit's bytes are those of the arena as it is left.
+// Looks the command key's value up under the key. A hit's bytes are the entry's own, in the arena as it is left.
 pub fn get(
     arena: &mut [u8],
     g: Settings,
@@ -95,7 +96,7 @@ pub fn get(
     epoch: u64,
 ) -> Looked
     requires { ⌜ Arena g (now arena) × KeyIn (now source) command ⌝ }
-    ensures { λ r. ⌜ ((rows : ℕ → Row) → Lent g (now (arena .entry)) rows → Lent g (now (arena .exit)) (rowsAfter (setupNow g) (on (lookup (now (key .entry)) (keyBytes (now (source .entry)) command) clock epoch)) rows) × Told (now (arena .exit)) (effectIn (setupNow g) (lookup (now (key .entry)) (keyBytes (now (source .entry)) command) clock epoch) rows) r) ⌝ }
+    ensures { λ r. ⌜ ((rows : ℕ → Row) → Lent g (now (arena .entry)) rows → Lent g (now (arena .exit)) (rowsAfter (setupNow g) (on (lookup (now (key .entry)) (keyBytes (now (source .entry)) command) clock epoch)) rows) × Told (now (arena .exit)) (effectIn (setupNow g) (lookup (now (key .entry)) (keyBytes (now (source .entry)) command) clock epoch) rows) r × BeginsAt (arenaPlace (setupNow g) (now (key .entry)) (keyBytes (now (source .entry)) command) (rowsAfter (setupNow g) (on (lookup (now (key .entry)) (keyBytes (now (source .entry)) command) clock epoch)) rows)) r) ⌝ }
 {
     let start = shard_start(g, key);
     let end = start + g.bytes;

@@ -1,11 +1,13 @@
 -- The ways through a single call, as laws of its definition: refused, or the book's call on the arena that it left. Assumes what `Lent` says of the arena.
 use mathlib.Core.Path.{_≡_, refl, sym, ap, _∙_, subst}
-use Prim.Native.Nat.{ℕ}
+use Prim.Native.Nat.{ℕ, _-_}
 use native.Mathlib.Omega.{arith}
 use mathlib.Core.Bool.{Bool, true, false, cond}
 use mathlib.Core.Option.{Option, none, some}
 use lib.ListN.{length}
+use lib.Dec.{eqb}
 use Rattle.buffer.specs.Same.{Bytes}
+use Rattle.buffer.specs.Part.{part, length-part}
 use Rattle.config.specs.Causes.{badConfig, badArena, tooLong, badReply, noSpace}
 use Rattle.config.specs.Config.{checked}
 use Rattle.config.specs.declared.Settings.{Settings}
@@ -17,18 +19,23 @@ use Rattle.book.specs.Book.{Setup, Row, Counts, plus, count, Answer, stored, no
 use Rattle.book.specs.Calls.{ons, call-defs}
 use Rattle.arena.specs.Layout.{encode}
 use Rattle.arena.specs.Decode.{readArena, isImage, decode}
+use Rattle.arena.specs.Image.{decodes}
+use Rattle.arena.specs.Place.{arenaPlace}
 use Rattle.arena.specs.Sequence.{Held, lend}
 use Rattle.command_key.specs.Key.{keyBytes}
-use Rattle.shard_lookup.specs.Looked.{Told}
+use Rattle.shard_lookup.specs.Looked.{Told, BeginsAt}
 use Rattle.shard_lookup.specs.declared.Looked.{Looked}
 use Rattle.shard_lookup.specs.declared.Looked.the-variants.{Hit as Got, Miss as Missed}
 use Rattle.shard_lookup.specs.Whole.{wholeKey, whole-bytes}
 use Rattle.sharded_lru.specs.Lent.{setupNow, Lent, effectIn, rowsAfter}
+use Rattle.sharded_lru.specs.Laws.{sized}
 use Rattle.sharded_lru.specs.Admit.{admittedBy, admitted, Entered}
 use Rattle.sharded_lru.specs.declared.Admitted.the-variants.{Admits, Refused as NotAdmitted}
 use Rattle.single_calls.specs.declared.Answered.the-variants.{Done, Refused}
 use Rattle.single_calls.specs.declared.Found.the-variants.{Denied}
-use Rattle.single_calls.specs.Single.{Return, refusedAs, overlong, wrongBytes, numberOf, servedBy, calledOn, imaged, configured, singleCall}
+use Rattle.single_calls.specs.Single.{noCause, Return, refusedAs, overlong, wrongBytes, numberOf, servedBy, calledOn, imaged, configured, singleCall}
+use Rattle.single_calls.specs.Place.{placeIn, servedAt, placeLeft, placeUnder, lookupPlace}
+use Rattle.single_calls.specs.AnswerLaws.{done-is, refused-is, hit-is, miss-is, denied-is}
 use Rattle.single_calls.specs.Answers.{countsOf, holding, Left, LookupLeft, InvalidationLeft, moreOf, lookedUp}
 
 -- ---- causes 1 and 9
@@ -63,6 +70,13 @@ module _ (size mode ttl : ℕ) (q : Keyed) (s : Bytes) where
   unfolding singleCall configured
   is-admitted g lent next w = rw (w .fine, w .read)
 
+-- and the place of what it serves
+pub place-admitted : (size mode ttl : ℕ) (k c : Bytes) (t e : ℕ) (s : Bytes) (g : Settings) (lent : Counts) (next : ℕ) → Entered size mode ttl s g
+    → lookupPlace size mode ttl k c t e (holding s lent next)
+    ≡ placeLeft (setupNow g) k c (imaged (setupNow g) (some (readArena (setupNow g) s)) (lookup k c t e) (holding s lent next))
+unfolding lookupPlace placeUnder
+place-admitted size mode ttl k c t e s g lent next w = rw (is-admitted size mode ttl (lookup k c t e) s g lent next w, w .fine)
+
 -- ---- causes 3 and 6
 
 module _ (p : Setup) (rows : ℕ → Row) (q : Keyed) (h : Held) where
@@ -80,17 +94,41 @@ module _ (p : Setup) (rows : ℕ → Row) (q : Keyed) (h : Held) where
 
 -- ---- refused, everything is left as it was
 
-module _ (d : Return) (n : ℕ) (s : Bytes) (lent : Counts) (next : ℕ) (e : d ≡ refusedAs n (holding s lent next)) where
-  pub left-refused : Left d s (Refused n)
-  left-refused = rw e (record { cause = refl; arena = refl })
+module _ (d : Return) (n : ℕ) (some-cause : eqb n noCause ≡ false) (s : Bytes) where
+  pub left-refused : (lent : Counts) (next : ℕ) → d ≡ refusedAs n (holding s lent next) → Left d s (Refused n)
+  left-refused lent next e = rw e (record { answer = refused-is (refusedAs n (holding s lent next)) n some-cause refl; cause = refl; arena = refl })
 
-pub lookup-refused : (d : Return) (n : ℕ) (s : Bytes) (c : Statistics) (next : ℕ) → d ≡ refusedAs n (holding s (countsOf c) next)
-    → LookupLeft d s (record { found = Denied n; counts = c })
-lookup-refused d n s c next e = rw e (record { cause = refl; value = refl; within = tt; arena = refl; counts = refl })
+  pub lookup-refused : (c : Statistics) (next at : ℕ) → d ≡ refusedAs n (holding s (countsOf c) next) → 0 ≡ at
+      → LookupLeft d at s (record { found = Denied n; counts = c })
+  lookup-refused c next at e a =
+      rw e
+      (record {
+        answer = denied-is (refusedAs n (holding s (countsOf c) next)) at n some-cause refl;
+        cause = refl;
+        value = refl;
+        place = a;
+        within = tt;
+        arena = refl;
+        counts = refl;
+      })
 
-pub invalidation-refused : (d : Return) (n : ℕ) (s : Bytes) (c : Statistics) (next : ℕ) → d ≡ refusedAs n (holding s (countsOf c) next)
-    → InvalidationLeft d s (record { answer = Refused n; counts = c })
-invalidation-refused d n s c next e = rw e (record { cause = refl; arena = refl; counts = refl })
+  pub invalidation-refused : (c : Statistics) (next : ℕ) → d ≡ refusedAs n (holding s (countsOf c) next) → InvalidationLeft d s (record { answer = Refused n; counts = c })
+  invalidation-refused c next e =
+      rw e (record { answer = refused-is (refusedAs n (holding s (countsOf c) next)) n some-cause refl; cause = refl; arena = refl; counts = refl })
+
+-- nothing is served there, so that the place is the arena's start
+pub no-place-left : (p : Setup) (k c : Bytes) (d : Return) (n : ℕ) (h : Held) → d ≡ refusedAs n h → 0 ≡ placeLeft p k c d
+unfolding placeLeft servedAt
+no-place-left p k c d n h e = rw e
+
+pub no-place : (size mode ttl : ℕ) (k c : Bytes) (t u n : ℕ) (h g : Held) → singleCall size mode ttl (lookup k c t u) h ≡ refusedAs n g
+    → 0 ≡ lookupPlace size mode ttl k c t u h
+unfolding lookupPlace
+no-place size mode ttl k c t u n h g e = go (checked size mode ttl (length (h .arena)))
+  where
+    go : (f : CheckedConfig) → 0 ≡ placeUnder f k c (singleCall size mode ttl (lookup k c t u) h)
+    go BadConfig = unfold placeUnder in refl
+    go (Fine f) = unfold placeUnder in no-place-left (setupNow f) k c _ n g e
 
 -- ---- the book's call
 
@@ -99,12 +137,15 @@ more-counts : (c : Statistics) (h m n : ℕ) → countsOf (moreOf c h m n) ≡ c
 unfolding count
 more-counts c h m n = refl
 
--- a lookup of a command key that is all of its source
-pub whole-get : (g : Settings) (u : Bytes) (rows : ℕ → Row) (k c : Bytes) (t e : ℕ) (r : Looked)
-    → Lent g u (rowsAfter (setupNow g) (on (lookup k (keyBytes c (wholeKey c)) t e)) rows) × Told u (effectIn (setupNow g) (lookup k (keyBytes c (wholeKey c)) t e) rows) r
-    → Lent g u (rowsAfter (setupNow g) (on (lookup k c t e)) rows) × Told u (effectIn (setupNow g) (lookup k c t e) rows) r
-whole-get g u rows k c t e r w =
-    subst (λ (z : Bytes). Lent g u (rowsAfter (setupNow g) (on (lookup k z t e)) rows) × Told u (effectIn (setupNow g) (lookup k z t e) rows) r) (whole-bytes c) w
+-- a lookup of command key c left the arena u and was answered r
+abbrev Gets : Settings → Bytes → (ℕ → Row) → Bytes → ℕ → ℕ → Looked → Bytes → Type 0
+Gets g u rows k t e r c =
+    Lent g u (rowsAfter (setupNow g) (on (lookup k c t e)) rows) × Told u (effectIn (setupNow g) (lookup k c t e) rows) r
+    × BeginsAt (arenaPlace (setupNow g) k c (rowsAfter (setupNow g) (on (lookup k c t e)) rows)) r
+
+-- one of a command key that is all of its source
+pub whole-get : (g : Settings) (u : Bytes) (rows : ℕ → Row) (k c : Bytes) (t e : ℕ) (r : Looked) → Gets g u rows k t e r (keyBytes c (wholeKey c)) → Gets g u rows k t e r c
+whole-get g u rows k c t e r w = subst (Gets g u rows k t e r) (whole-bytes c) w
 
 -- a call that neither 3 nor 6 refuses found the arena s and left u
 module _ (g : Settings) (s u : Bytes) (rows : ℕ → Row) (q : Keyed) (next : ℕ) (n : length u ≡ length s) (w : Lent g u (rowsAfter (setupNow g) (on q) rows))
@@ -135,25 +176,55 @@ module _ (g : Settings) (s u : Bytes) (rows : ℕ → Row) (q : Keyed) (next : �
   pub store-left : (lent : Counts) (b kept : Bool) → b ≡ kept → cond b stored spaceless ≡ effectIn (setupNow g) q rows .answer
       → Left (here lent) u (cond kept Done (Refused noSpace))
   unfolding numberOf
-  store-left lent b true i a = record { cause = cause-is lent stored (sym (rw i at a)); arena = arena-is lent }
-  store-left lent b false i a = record { cause = cause-is lent spaceless (sym (rw i at a)); arena = arena-is lent }
+  store-left lent b true i a =
+      let n = cause-is lent stored (sym (rw i at a)) in
+      record { answer = done-is (here lent) n; cause = n; arena = arena-is lent }
+  store-left lent b false i a =
+      let n = cause-is lent spaceless (sym (rw i at a)) in
+      record { answer = refused-is (here lent) noSpace refl n; cause = n; arena = arena-is lent }
+
+  -- the rows that it left are read from its arena, so that the place of a value served is the place in them
+  place-is : (lent : Counts) (k c v : Bytes) → some v ≡ here lent .value → arenaPlace (setupNow g) k c (rowsAfter (setupNow g) (on q) rows) ≡ placeLeft (setupNow g) k c (here lent)
+  unfolding placeLeft servedAt placeIn
+  place-is lent k c v e =
+      let d : decode isValue (setupNow g) u ≡ some (rowsAfter (setupNow g) (on q) rows) = decodes isValue (setupNow g) u (sized g u _ w) _ .1 (w .image) in
+      rw (sym e, sym (arena-is lent), d)
+
+  -- with none, it is the arena's start
+  no-place-is : (lent : Counts) (k c : Bytes) → none ≡ here lent .value → 0 ≡ placeLeft (setupNow g) k c (here lent)
+  unfolding placeLeft servedAt
+  no-place-is lent k c e = rw (sym e)
 
   module _ (c : Statistics) where
     -- a lookup, by what the shards answered
-    pub lookup-left : (r : Looked) → Told u (effectIn (setupNow g) q rows) r → LookupLeft (here (countsOf c)) u (lookedUp c r)
+    pub lookup-left : (k b : Bytes) (r : Looked) → Told u (effectIn (setupNow g) q rows) r
+        → BeginsAt (arenaPlace (setupNow g) k b (rowsAfter (setupNow g) (on q) rows)) r
+        → LookupLeft (here (countsOf c)) (placeLeft (setupNow g) k b (here (countsOf c))) u (lookedUp c r)
     unfolding numberOf servedBy
-    lookup-left (Got from to) t =
+    lookup-left k b (Got from to) t l =
+        let x = t .0 in
+        let y = t .1 in
+        let n = cause-is (countsOf c) _ (t .2) in
+        let v = value-is (countsOf c) _ (t .2) in
+        let i : from ≡ placeLeft (setupNow g) k b (here (countsOf c)) = l ∙ place-is (countsOf c) k b _ v in
+        let m : length (part u from (to - from)) ≡ to - from = length-part u from (to - from) (omega arith) in
         record {
-          cause = cause-is (countsOf c) _ (t .2);
-          value = value-is (countsOf c) _ (t .2);
+          answer = hit-is (here (countsOf c)) _ _ from to n v i (omega arith);
+          cause = n;
+          value = v;
+          place = i;
           within = (t .0, t .1);
           arena = arena-is (countsOf c);
           counts = more-counts c 1 0 0 ∙ counts-are (countsOf c) _ (t .3);
         }
-    lookup-left (Missed m) t =
+    lookup-left k b (Missed m) t l =
+        let n = cause-is (countsOf c) _ (t .0) in
+        let v = value-is (countsOf c) _ (t .0) in
         record {
-          cause = cause-is (countsOf c) _ (t .0);
-          value = value-is (countsOf c) _ (t .0);
+          answer = miss-is (here (countsOf c)) _ n v;
+          cause = n;
+          value = v;
+          place = no-place-is (countsOf c) k b v;
           within = tt;
           arena = arena-is (countsOf c);
           counts = more-counts c 0 1 m ∙ counts-are (countsOf c) _ (t .1);
@@ -165,6 +236,7 @@ module _ (g : Settings) (s u : Bytes) (rows : ℕ → Row) (q : Keyed) (next : �
     unfolding numberOf
     invalidation-left m a b =
         record {
+          answer = done-is (here (countsOf c)) (cause-is (countsOf c) _ a);
           cause = cause-is (countsOf c) _ a;
           arena = arena-is (countsOf c);
           counts = more-counts c 0 0 m ∙ counts-are (countsOf c) _ b;

@@ -1,8 +1,10 @@
 -- What the answers of this crate's functions stand for: 01's number and values for every case. Assumes nothing: these are definitions.
 use mathlib.Core.Path.{_≡_}
-use Prim.Native.Nat.{ℕ, _-_, _≤_}
+use Prim.Native.Nat.{ℕ, _+_, _-_, _≤_}
+use mathlib.Core.Bool.{cond}
 use mathlib.Core.Option.{Option, none, some}
 use lib.ListN.{length}
+use lib.Dec.{eqb}
 use Rattle.buffer.specs.Same.{Bytes}
 use Rattle.buffer.specs.Part.{part}
 use Rattle.statistics.specs.Counts.{moreHit, moreMiss, moreInvalidate}
@@ -32,8 +34,13 @@ abbrev pub answerNumber : Answered → ℕ
 answerNumber Done = noCause
 answerNumber (Refused n) = n
 
+-- the answer that a call's return asks for: done exactly where no cause refuses the call. No refusal has its number, so that neither stands for the other
+abbrev pub answeredOf : Return → Answered
+answeredOf d = cond (eqb (d .cause) noCause) Done (Refused (d .cause))
+
 -- a store or an invalidation answered `r` and left the arena `s`, as the call's return says
 pub record Left (d : Return) (s : Bytes) (r : Answered) : Type 0 where
+  pub answer : r ≡ answeredOf d
   pub cause : answerNumber r ≡ d .cause
   pub arena : s ≡ d .held .arena
 
@@ -48,6 +55,21 @@ abbrev pub foundValue : Bytes → Found → Option Bytes
 foundValue s (Hit from to) = some (part s from (to - from))
 foundValue s Miss = none
 foundValue s (Denied n) = none
+
+-- where that part begins; at the arena's start where nothing is served
+abbrev pub foundPlace : Found → ℕ
+foundPlace (Hit from to) = from
+foundPlace Miss = 0
+foundPlace (Denied n) = 0
+
+-- the answer that a lookup's return asks for, with its value at the place `at`: a hit, of as many bytes as the value has, or a miss; denied exactly where a
+-- cause refuses it
+abbrev pub servedAs : Option Bytes → ℕ → Found
+servedAs none at = Miss
+servedAs (some v) at = Hit at (at + length v)
+
+abbrev pub foundOf : Return → ℕ → Found
+foundOf d at = cond (eqb (d .cause) noCause) (servedAs (d .value) at) (Denied (d .cause))
 
 -- the counts with so many more of each, wrapping: the book's `count`
 abbrev pub moreOf : Statistics → ℕ → ℕ → ℕ → Statistics
@@ -64,16 +86,19 @@ FoundIn n (Hit from to) = (from ≤ to) × (to ≤ n)
 FoundIn n Miss = Unit {0}
 FoundIn n (Denied m) = Unit {0}
 
--- a lookup answered `r` and left the arena `s`, as the call's return says
-pub record LookupLeft (d : Return) (s : Bytes) (r : LookedUp) : Type 0 where
+-- a lookup answered `r` and left the arena `s`, as the call's return says, the value that it serves at the place `at`
+pub record LookupLeft (d : Return) (at : ℕ) (s : Bytes) (r : LookedUp) : Type 0 where
+  pub answer : r .found ≡ foundOf d at
   pub cause : foundNumber (r .found) ≡ d .cause
   pub value : foundValue s (r .found) ≡ d .value
+  pub place : foundPlace (r .found) ≡ at
   pub within : FoundIn (length s) (r .found)
   pub arena : s ≡ d .held .arena
   pub counts : countsOf (r .counts) ≡ d .held .counts
 
 -- so for an invalidation, which returns the counts too
 pub record InvalidationLeft (d : Return) (s : Bytes) (r : Invalidated) : Type 0 where
+  pub answer : r .answer ≡ answeredOf d
   pub cause : answerNumber (r .answer) ≡ d .cause
   pub arena : s ≡ d .held .arena
   pub counts : countsOf (r .counts) ≡ d .held .counts

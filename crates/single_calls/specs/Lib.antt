@@ -1,7 +1,10 @@
 pub mod Setup
 pub mod Single
+pub mod Place
 pub mod Answers
+pub mod AnswerLaws
 pub mod SingleCases
 pub mod AsCall
+pub mod PlaceLaws
 pub mod Laws
 pub mod Cases

@@ -18,8 +18,10 @@ use Rattle.book.specs.Book.{Keyed, lookup, store, invalidate, plus, book-defs}
 use Rattle.book.specs.Calls.{ons, call-defs}
 use Rattle.arena.specs.Layout.{zeros, head, itemHead, encEntry, encEntries, encItem, encItems, encShard, encShards, encode}
 use Rattle.arena.specs.Decode.{readEntry, readEntries, readItem, readItems, readShard, readArena, every, distinctKeys, distinctCommands, mayStore, itemFits, itemFine, rowFine, rowsFine, isImage, decode}
+use Rattle.arena.specs.Place.{entriesPlace, itemsPlace, shardPlace, arenaPlace}
 use Rattle.arena.specs.Sequence.{Held, lend}
 use Rattle.arena.specs.Sizes.{setupOf}
+use Rattle.single_calls.specs.Place.{placeIn, servedAt, placeLeft, placeUnder, lookupPlace}
 use Rattle.single_calls.specs.Single.{Return, overlong, wrongBytes, numberOf, servedBy, calledOn, imaged, configured, singleCall}
 
 -- one name that opens the whole call
@@ -67,6 +69,14 @@ pub served-at-expiry :
     (call (looking 10) (call storing (freshIn 80) .held) .value ≡ some value) × (call (looking 10) (call storing (freshIn 80) .held) .held .counts ≡ plus 1 0 0)
 unfolding single-defs
 served-at-expiry = (refl, refl)
+
+-- and its place is behind the headers of shard, item and entry, the key and the command key: 16, 32 + 3 and 16 + 6 bytes; dropped, it has none
+pub place-at-expiry :
+    (lookupPlace 1 0 0 (ascii "abc") (ascii "GETabc") 10 0 (call storing (freshIn 80) .held) ≡ 73)
+    × (part (call (looking 10) (call storing (freshIn 80) .held) .held .arena) 73 7 ≡ value)
+    × (lookupPlace 1 0 0 (ascii "abc") (ascii "GETabc") 11 0 (call storing (freshIn 80) .held) ≡ 0)
+unfolding single-defs entriesPlace itemsPlace shardPlace arenaPlace placeIn servedAt placeLeft placeUnder lookupPlace
+place-at-expiry = (refl, refl, refl)
 
 -- P: one more: dropped, a miss and an entry; the bytes are free again
 pub dropped-past-expiry :

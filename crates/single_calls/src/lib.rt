@@ -16,6 +16,7 @@ ghost use Rattle.book.specs.Book.{Row, Counts, lookup, store, invalidate};
 ghost use Rattle.sharded_lru.specs.Lent.{setupNow, Lent, Arena};
 ghost use Rattle.single_calls.specs.Setup.{setUp, freshArena};
 ghost use Rattle.single_calls.specs.Single.{overlongBy, imaged, singleCall};
+ghost use Rattle.single_calls.specs.Place.{placeLeft, lookupPlace};
 ghost use Rattle.single_calls.specs.Answers.{countsOf, holding, Left, LookupLeft, InvalidationLeft, moreOf, lookedUp};
 
 // What stands for a cause's number where no cause refuses a call.
@@ -122,7 +123,7 @@ fn lookup_admitted(
     counts: Statistics,
 ) -> LookedUp
     requires { ⌜ Arena g (now arena) ⌝ }
-    ensures { λ r. ⌜ ((rows : ℕ → Row) (next : ℕ) → Lent g (now (arena .entry)) rows → LookupLeft (imaged (setupNow g) (some rows) (lookup (now (key .entry)) (now (command .entry)) clock epoch) (holding (now (arena .entry)) (countsOf counts) next)) (now (arena .exit)) r) ⌝ }
+    ensures { λ r. ⌜ ((rows : ℕ → Row) (next : ℕ) → Lent g (now (arena .entry)) rows → LookupLeft (imaged (setupNow g) (some rows) (lookup (now (key .entry)) (now (command .entry)) clock epoch) (holding (now (arena .entry)) (countsOf counts) next)) (placeLeft (setupNow g) (now (key .entry)) (now (command .entry)) (imaged (setupNow g) (some rows) (lookup (now (key .entry)) (now (command .entry)) clock epoch) (holding (now (arena .entry)) (countsOf counts) next))) (now (arena .exit)) r) ⌝ }
 {
     let n = command.len();
     if too_long(key.len(), n, 0) {
@@ -148,7 +149,7 @@ pub fn lookup(
     command: &[u8],
     counts: Statistics,
 ) -> LookedUp
-    ensures { λ r. ⌜ ((next : ℕ) → LookupLeft (singleCall size mode ttl (lookup (now (key .entry)) (now (command .entry)) clock epoch) (holding (now (arena .entry)) (countsOf counts) next)) (now (arena .exit)) r) ⌝ }
+    ensures { λ r. ⌜ ((next : ℕ) → LookupLeft (singleCall size mode ttl (lookup (now (key .entry)) (now (command .entry)) clock epoch) (holding (now (arena .entry)) (countsOf counts) next)) (lookupPlace size mode ttl (now (key .entry)) (now (command .entry)) clock epoch (holding (now (arena .entry)) (countsOf counts) next)) (now (arena .exit)) r) ⌝ }
 {
     match sharded_lru::admit(arena, size, mode, ttl) {
         Admitted::Refused(n) => LookedUp {

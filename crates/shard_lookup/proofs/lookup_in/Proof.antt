@@ -11,7 +11,7 @@ use Rattle.command_key.specs.Key.{keyBytes}
 use Rattle.shard.proofs.Fields.{fields, pieces}
 use Rattle.shard.specs.Holds.{Holds}
 use Rattle.shard.proofs.Items.{KeyAt, key-at, item-at, no-item}
-use Rattle.shard_lookup.proofs.Lookups.{finds-none, finds-stale, finds-bare, finds-value, leaves, tells-miss, tells-hit}
+use Rattle.shard_lookup.proofs.Lookups.{finds-none, finds-stale, finds-bare, finds-value, leaves, tells-miss, tells-hit, begins-first}
 use borrow.Author.Needs.{needs}
 use Rattle.shard_lookup.proofs.lookup_in.Statement.{statement}
 use Rattle.shard_lookup.proofs.lookup_in.Tie as tie
@@ -38,7 +38,7 @@ returns c row h =
     let n = no-item 16 _ row (sym (c .before .before .find .ensures row h) ∙ c .enum-told .given .1) in
     let f = finds-none _ _ _ _ row n in
     let s = c .before .before .before .before .before .before .before .args .s .now in
-    (leaves (length s) s _ _ row (h .is) refl f, tells-miss s _ _ _ _ f refl)
+    (leaves (length s) s _ _ row (h .is) refl f, tells-miss s _ _ _ _ f refl, tt)
 
 read-item-requires : tie.Need-read-item-requires
 read-item-requires c κs = let h = c .before .before .before .before .before .before .before .before .before .pre .0 .holds in (item-at (key (c .before) _ h), c .before .before .before .before .before .before .before .before .before .pre .1)
@@ -99,6 +99,7 @@ returns-2 c row h =
     let n = c .before .before .before .before .entry-count .ensures (g .place .front) (g .place .back) (g .item) (g .stands) in (
       leaves (length (a .s .now)) _ _ _ _ (c .before .before .remove .ensures (g .place .front) (g .place .back) (g .item) (g .stands)) (sym (g .place .gone)) f,
       tells-miss (a .s .now) _ _ _ _ f n,
+      tt,
     )
 
 same-length-3 : tie.Need-same-length-3
@@ -114,6 +115,7 @@ returns-3 c row h =
     let moved = ap (λ (z : Row). g .item ∷ z) (sym (g .place .gone)) in (
       leaves (length (a .s .now)) _ _ _ _ (c .before .before .touch .ensures (g .place .front) (g .place .back) (g .item) (g .stands)) moved f,
       tells-miss (a .s .now) _ _ _ _ f refl,
+      tt,
     )
 
 same-length-4 : tie.Need-same-length-4
@@ -132,6 +134,7 @@ returns-4 c row h =
     let p = pieces _ [] (g .place .front ++ g .place .back) (g .item) t refl in (
       leaves (length (a .s .now)) _ _ _ _ t moved f,
       tells-hit p _ _ _ _ _ _ (v .1) f refl refl,
+      begins-first (a .key .now) _ _ _ row _ _ _ _ (g .is) f (v .3) refl,
     )
 
 pub lookup-in-spec : {M : Type 1} → statement M

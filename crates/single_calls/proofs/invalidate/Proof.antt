@@ -1,6 +1,7 @@
 -- `single_calls::invalidate` meets its contract. Assumes nothing.
 use mathlib.Core.Path.{sym, _∙_}
 use Rattle.sharded_lru.specs.Admit.{admits, enter}
+use Rattle.single_calls.specs.AnswerLaws.{not-admitted-cause}
 use Rattle.single_calls.proofs.Ways.{not-admitted, is-admitted, invalidation-refused}
 use borrow.Author.Needs.{needs}
 use Rattle.single_calls.proofs.invalidate.Statement.{statement}
@@ -32,7 +33,9 @@ same-length c = search needs
 
 -- src/lib.rt:207:1
 returns : tie.Need-returns
-returns c next = invalidation-refused _ _ _ _ _ (not-admitted _ _ _ _ _ _ _ next (sym (c .before .before .before .admit .ensures) ∙ c .before .n .given .1))
+returns c next =
+    let e = sym (c .before .before .before .admit .ensures) ∙ c .before .n .given .1 in
+    invalidation-refused _ _ (not-admitted-cause _ _ _ _ _ e) _ _ _ (not-admitted _ _ _ _ _ _ _ next e)
 
 -- src/lib.rt:207:1
 same-length-2 : tie.Need-same-length-2

@@ -19,7 +19,7 @@ too-long-requires c κs = search needs
 -- src/lib.rt:210:9
 returns : tie.Need-returns
 unfolding overlong
-returns c rows next w = invalidation-refused _ _ _ _ _ (too-long _ rows _ _ (sym (c .before .too-long .ensures) ∙ c .if1 .taken))
+returns c rows next w = invalidation-refused _ _ refl _ _ _ (too-long _ rows _ _ (sym (c .before .too-long .ensures) ∙ c .if1 .taken))
 
 -- src/lib.rt:215:9
 invalidate-requires : tie.Need-invalidate-requires

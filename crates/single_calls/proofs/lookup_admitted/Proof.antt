@@ -2,7 +2,7 @@
 use mathlib.Core.Path.{refl, sym, _∙_}
 use Rattle.shard_lookup.specs.Whole.{whole-in}
 use Rattle.single_calls.specs.Single.{overlong, wrongBytes}
-use Rattle.single_calls.proofs.Ways.{too-long, lookup-refused, whole-get, lookup-left}
+use Rattle.single_calls.proofs.Ways.{too-long, no-place-left, lookup-refused, whole-get, lookup-left}
 use borrow.Author.Needs.{needs}
 use Rattle.single_calls.proofs.lookup_admitted.Statement.{statement}
 use Rattle.single_calls.proofs.lookup_admitted.Tie as tie
@@ -19,7 +19,9 @@ too-long-requires c κs = search needs
 -- src/lib.rt:110:9
 returns : tie.Need-returns
 unfolding overlong
-returns c rows next w = lookup-refused _ _ _ _ _ (too-long _ rows _ _ (sym (c .before .too-long .ensures) ∙ c .if1 .taken))
+returns c rows next w =
+    let r = too-long _ rows _ _ (sym (c .before .too-long .ensures) ∙ c .if1 .taken) in
+    lookup-refused _ _ refl _ _ _ _ r (no-place-left _ _ _ _ _ _ r)
 
 -- src/lib.rt:116:9
 get-requires : tie.Need-get-requires
@@ -40,7 +42,7 @@ returns-2 c rows next w =
     let a = c .before .before .before .before .before .before .before .before .before .before .args in
     let r = whole-get _ _ rows _ (a .command .now) _ _ (c .before .before .before .get .result) (c .before .before .before .get .ensures rows w) in
     rw (c .counted .ensures)
-    (lookup-left _ _ _ rows _ next (c .before .before .before .get .kept .0) (r .0) (sym (c .before .before .before .before .before .before .too-long .ensures) ∙ c .before .before .before .before .before .if1 .left) refl (a .counts) (c .before .before .before .get .result) (r .1))
+    (lookup-left _ _ _ rows _ next (c .before .before .before .get .kept .0) (r .0) (sym (c .before .before .before .before .before .before .too-long .ensures) ∙ c .before .before .before .before .before .if1 .left) refl (a .counts) _ _ (c .before .before .before .get .result) (r .1) (r .2))
 
 pub lookup-admitted-spec : {M : Type 1} → statement M
 lookup-admitted-spec =

@@ -1,5 +1,5 @@
 -- `single_calls::store_admitted` meets its contract: one law for each way out. Assumes nothing.
-use mathlib.Core.Path.{sym, ap, _∙_}
+use mathlib.Core.Path.{refl, sym, ap, _∙_}
 use mathlib.Core.Bool.{not}
 use borrow.Author.Tests.{not-false}
 use Rattle.single_calls.specs.Single.{overlong, wrongBytes}
@@ -22,7 +22,7 @@ too-long-requires c κs = search needs
 returns : tie.Need-returns
 unfolding overlong
 returns c rows lent next w =
-    left-refused _ _ _ _ _ (too-long _ rows _ _ (sym (c .before .too-long .ensures) ∙ c .if1 .taken))
+    left-refused _ _ refl _ _ _ (too-long _ rows _ _ (sym (c .before .too-long .ensures) ∙ c .if1 .taken))
 
 -- src/lib.rt:159:9
 is-value-requires : tie.Need-is-value-requires
@@ -32,7 +32,7 @@ is-value-requires c κs = search needs
 returns-2 : tie.Need-returns-2
 unfolding overlong wrongBytes
 returns-2 c rows lent next w =
-    left-refused _ _ _ _ _ (bad-bytes _ rows _ _ (sym (c .before .before .before .too-long .ensures) ∙ c .before .before .if1 .left) (ap not (sym (c .before .is-value .ensures)) ∙ c .if2 .taken))
+    left-refused _ _ refl _ _ _ (bad-bytes _ rows _ _ (sym (c .before .before .before .too-long .ensures) ∙ c .before .before .if1 .left) (ap not (sym (c .before .is-value .ensures)) ∙ c .if2 .taken))
 
 -- src/lib.rt:162:8
 insert-requires : tie.Need-insert-requires
