@@ -18,7 +18,8 @@ same-length : tie.Need-same-length
 same-length c = search needs
 
 returns : tie.Need-returns
-returns c = λ w p q. laws.looks-one _ _ _ w _ _ _ _ _ _ (c .before .before .before .get .result) (p ∙ sym (c .before .before .before .before .before .bytes-in .ensures)) q (c .counted .ensures) (c .before .before .before .get .ensures)
+returns c = λ w p q. laws.looks-one _ _ _ w _ _ _ _ _ _ (c .before .before .before .get .result) (p ∙ sym (c .before .before .before .before .before .bytes-in .ensures)) q (c .counted .ensures)
+    (λ rows l. let h = c .before .before .before .get .ensures rows l in (h .0, h .1))
 
 pub look-up-key-spec : {M : Type 1} → statement M
 look-up-key-spec =
