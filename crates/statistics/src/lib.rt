@@ -1,5 +1,5 @@
-// The counts of hits, misses and invalidated entries, by value: they wrap at 64 bits (specs/Counts.antt). After statistics.rs, whose
-// atomics are here a state that goes in and comes back.
+// The counts of hits, misses and invalidated entries: they wrap at 64 bits (specs/Counts.antt). After statistics.rs, whose atomics are here a state that goes
+// in and comes back, and a record that the caller lends: an increase of a lent record is thin over the one by value.
 ghost use mathlib.Core.Path.{_≡_};
 ghost use Rattle.statistics.specs.Counts.{moreHit, moreMiss, moreInvalidate, reading};
 
@@ -62,4 +62,25 @@ impl CacheStatistics {
             invalidate: value.invalidate,
         }
     }
+}
+
+// So many more hits in the record that is lent.
+pub fn increase_hit(counts: &mut Statistics, val: u64)
+    ensures { λ _. ⌜ now (counts .exit) ≡ moreHit (now (counts .entry)) val ⌝ }
+{
+    *counts = Statistics::increase_hit(*counts, val);
+}
+
+// So many more misses in the record that is lent.
+pub fn increase_miss(counts: &mut Statistics, val: u64)
+    ensures { λ _. ⌜ now (counts .exit) ≡ moreMiss (now (counts .entry)) val ⌝ }
+{
+    *counts = Statistics::increase_miss(*counts, val);
+}
+
+// So many more invalidated entries in the record that is lent.
+pub fn increase_invalidate(counts: &mut Statistics, val: u64)
+    ensures { λ _. ⌜ now (counts .exit) ≡ moreInvalidate (now (counts .entry)) val ⌝ }
+{
+    *counts = Statistics::increase_invalidate(*counts, val);
 }
