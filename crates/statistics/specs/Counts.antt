@@ -16,6 +16,10 @@ moreMiss s n = record { hit = s .hit; miss = wrap (s .miss + n); invalidate = s 
 abbrev pub moreInvalidate : Statistics → ℕ → Statistics
 moreInvalidate s n = record { hit = s .hit; miss = s .miss; invalidate = wrap (s .invalidate + n) }
 
+-- so many more of each, wrapping
+abbrev pub more : Statistics → Statistics → Statistics
+more s n = moreInvalidate (moreMiss (moreHit s (n .hit)) (n .miss)) (n .invalidate)
+
 -- the counts as a reader is shown them: each under its own name
 abbrev pub reading : Statistics → CacheStatistics
 reading s = record { hit = s .hit; miss = s .miss; invalidate = s .invalidate }

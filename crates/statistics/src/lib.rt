@@ -1,7 +1,7 @@
 // The counts of hits, misses and invalidated entries: they wrap at 64 bits (specs/Counts.antt). After statistics.rs, whose atomics are here a state that goes
 // in and comes back, and a record that the caller lends: an increase of a lent record is thin over the one by value.
 ghost use mathlib.Core.Path.{_≡_};
-ghost use Rattle.statistics.specs.Counts.{moreHit, moreMiss, moreInvalidate, reading};
+ghost use Rattle.statistics.specs.Counts.{moreHit, moreMiss, moreInvalidate, more, reading};
 
 // The counts as they are kept.
 #[repr(C)]
@@ -83,4 +83,13 @@ pub fn increase_invalidate(counts: &mut Statistics, val: u64)
     ensures { λ _. ⌜ now (counts .exit) ≡ moreInvalidate (now (counts .entry)) val ⌝ }
 {
     *counts = Statistics::increase_invalidate(*counts, val);
+}
+
+// So many more of each in the record that is lent.
+pub fn increase(counts: &mut Statistics, val: Statistics)
+    ensures { λ _. ⌜ now (counts .exit) ≡ more (now (counts .entry)) val ⌝ }
+{
+    increase_hit(counts, val.hit);
+    increase_miss(counts, val.miss);
+    increase_invalidate(counts, val.invalidate);
 }
