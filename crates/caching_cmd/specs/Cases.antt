@@ -2,6 +2,7 @@
 -- SipHash and RESP3 as they are. Assumes nothing.
 use mathlib.Core.Path.{_≡_, refl}
 use Prim.Native.Nat.{ℕ}
+use Prim.Native.String.{String}
 use mathlib.Core.List.{[], _∷_, _++_}
 use lib.ListN.{replicate}
 use Rattle.buffer.specs.Same.{Bytes}
@@ -38,7 +39,7 @@ unfolding
     book-defs call-defs ons stores refusals le readLe part put head itemHead encEntry encEntries encItem encItems encShard encShards layout.encode readEntry
     readEntries readItem readItems readShard readArena every distinctKeys distinctCommands mayStore itemFits itemFine rowFine rowsFine isImage decode lend setupOf
     checked refused settingsOf digits crlfB endedDef finDef numDef kindOf plainB encode lengthAt crlfEnd plain lineEnd blobEnd verbatimEnd numberEnd booleanEnd
-    iter bodyHead headAt valueEnd isValue resp.bytesAt resp.valuesAt resp.bodyOf resp.iterOf resp.valueOf resp.decode rotated sipRound rounds initial compressed absorbed lastWord finished
+    iter bodyHead headAt valueEnd isValue resp.bytesAt resp.lineAt resp.integerAt resp.valuesAt resp.bodyOf resp.iterOf resp.valueOf resp.decode rotated sipRound rounds initial compressed absorbed lastWord finished
     sipHash plan-defs order-defs decode-defs valueAt placeAt valuesAt placesAt commandsOf planRead resolve resultBytes fits toldTo refusedOf answerOf bufferAfter
     resolvedOn planned imaged configured resolveCall
 case-defs = tt
@@ -111,3 +112,51 @@ refused-in-75 = refl
 eight-stores-nothing : resolved oneMissing (ascii "*2\r\n:1\r\n$1\r\nu\r\n") 10 (freshIn 76) ≡ returning (Refused 8) (replicate 10 9) (freshIn 76)
 unfolding case-defs
 eight-stores-nothing = refl
+
+-- ---- whole returns: the answer, the buffer and the arena
+
+-- the node of a key missing, whose command key is `GET` and the key, client expiry 500; a plan's head
+abbrev missing : String → Bytes
+missing key = le32 3 ++ (le32 1 ++ (le32 4 ++ (le64 500 ++ (ascii key ++ (ascii "GET" ++ ascii key)))))
+
+abbrev planHead : ℕ → ℕ → Bytes
+planHead flags n = (flags ∷ ascii "_\r\n") ++ le32 n
+
+-- a cache of 80 bytes that holds `$1 u` for `GET k` up to clock 11, under epoch 3
+abbrev holdingK : Held
+holdingK =
+    record {
+      arena = le32 1 ++ (le32 60 ++ (zeros 8 ++ (le32 1 ++ (le32 1 ++ (le64 3 ++ (le64 11 ++ (le32 27 ++ (zeros 4 ++ (ascii "k"
+          ++ (le32 4 ++ (le32 7 ++ (zeros 8 ++ (ascii "GETk$1\r\nu\r\n" ++ zeros 4)))))))))))));
+      counts = plus 0 0 0;
+      next = 1;
+    }
+
+-- stored, with the unwritten end of the buffer unchanged
+stored-whole : resolved oneMissing (ascii "*2\r\n:1\r\n$1\r\nu\r\n") 13 (freshIn 80) ≡ returning (Answered 11 0) (ascii "*1\r\n$1\r\nu\r\n" ++ (9 ∷ 9 ∷ [])) holdingK
+unfolding case-defs
+stored-whole = refl
+
+-- 7 at the second command, which finds its PTTL and no reply: the first one's store remains, the buffer is zeroed
+seven-leaves-store : resolved (planHead 0 2 ++ (missing "k" ++ missing "m")) (ascii "*3\r\n:1\r\n$1\r\nu\r\n:1\r\n") 5 (freshIn 80) ≡ returning (Refused 7) (zeros 5) holdingK
+unfolding case-defs
+seven-leaves-store = refl
+
+-- opt-in: one reply is dropped first, and must be there
+opt-in-drops : resolveCall 1 1 0 oneMissing (ascii "*3\r\n+OK\r\n:1\r\n$1\r\nu\r\n") 10 3 (replicate 11 9) (freshIn 80) ≡ returning (Answered 11 0) (ascii "*1\r\n$1\r\nu\r\n") holdingK
+unfolding case-defs
+opt-in-drops = refl
+
+opt-in-absent : resolveCall 1 1 0 oneMissing (ascii "*2\r\n:1\r\n$1\r\nu\r\n") 10 3 (replicate 11 9) (freshIn 80) ≡ returning (Refused 7) (zeros 11) (freshIn 80)
+unfolding case-defs
+opt-in-absent = refl
+
+-- a transaction: the list is that of an array of one array, and the result stands inside `*1`; the bare list is 7
+transaction-inside : resolved (planHead 1 1 ++ missing "k") (ascii "*1\r\n*2\r\n:1\r\n$1\r\nu\r\n") 15 (freshIn 80)
+    ≡ returning (Answered 15 0) (ascii "*1\r\n*1\r\n$1\r\nu\r\n") holdingK
+unfolding case-defs
+transaction-inside = refl
+
+transaction-bare : resolved (planHead 1 1 ++ missing "k") (ascii "*2\r\n:1\r\n$1\r\nu\r\n") 15 (freshIn 80) ≡ returning (Refused 7) (zeros 15) (freshIn 80)
+unfolding case-defs
+transaction-bare = refl
