@@ -51,6 +51,7 @@ module _ (P : Call → Type 0) where
 
   -- a push: keys, or everything
   module _ (keys : (ks : List Bytes) → P (calls.push ks)) (everything : P calls.pushAll) where
+    -- the second element decides, then the first, then whether it is a push at all
     by-second : (o : Option Values) (v : Value) → P (invalidating o (isNull v))
     by-second (some ks) v = keys _
     by-second option.none v = byTest (isNull v) (λ t. rw t everything) (λ t. rw t (keys []))

@@ -45,6 +45,7 @@ module _ (p : Setup) (next : ℕ) (bk : Book) where
   abbrev pub Free : Call → Type 0
   Free c = afterCall p c (renumbered next bk) ≡ renumbered next (afterCall p c bk)
 
+  -- each kind of them
   none-free : Free calls.refused
   unfolding call-defs afterAll
   none-free = refl
@@ -104,6 +105,7 @@ next-stays p n c bk free = ap (lend p n) (sym free)
 
 -- ---- the counts
 
+-- stores add nothing
 stores-counts : (p : Setup) (e : ℕ) (ss : List Storing) (bk : Book) → Counted (bk .counts) → afterAll p (ons (stores e ss)) bk .counts ≡ bk .counts
 unfolding ons stores afterAll
 stores-counts p e [] bk w = refl
@@ -116,6 +118,7 @@ module _ (p : Setup) (bk : Book) (w : Counted (bk .counts)) where
   abbrev pub Uncounted : Call → Type 0
   Uncounted c = afterCall p c bk .counts ≡ bk .counts
 
+  -- each kind of them
   none-uncounted : Uncounted calls.refused
   unfolding call-defs afterAll
   none-uncounted = refl

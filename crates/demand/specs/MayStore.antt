@@ -22,6 +22,7 @@ use Rattle.demand.specs.BookCalls.{of-push, of-planning, of-fine}
 abbrev MayBe : Call → Type 0
 MayBe c = StorableEvents (mayStore isValue) (eventsOf c)
 
+-- a refused call stores nothing
 refused-may : MayBe calls.refused
 unfolding eventsOf
 refused-may = tt
@@ -56,6 +57,7 @@ unfolding eventsOf
 epoch-may = (tt, tt)
 
 module _ (size n : ℕ) where
+  -- what a given call tells the book, and some given calls
   call-may : (c : RealCall) → Given c → MayBe (bookCall size n c)
   unfolding bookCall
   call-may (planning m d t e bytes plan send) g =

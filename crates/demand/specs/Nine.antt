@@ -52,6 +52,7 @@ use Rattle.demand.specs.Refusals.{never-nine, other-mode}
 -- ---- the number 9 is given exactly where the arena is no image
 
 module _ (size : ℕ) (h : Held) where
+  -- the arena's length, and the book's setup
   abbrev n : ℕ
   n = length (h .arena)
 
@@ -149,10 +150,12 @@ module _ (size n : ℕ) (pass : refused size 0 n ≡ false) where
   all-given (q ∷ qs) w = (w .0 .given, all-given qs (w .1))
 
 module _ (size : ℕ) (s : Bytes) where
+  -- the book's setup for these bytes
   abbrev p′ : Setup
   p′ = setupWith size (length s)
 
   module _ (pass : refused size 0 (length s) ≡ false) (b : Octets s) (rows : ℕ → Row) (q : decode isValue p′ s ≡ some rows) where
+    -- the rows are well-formed and these bytes are theirs
     im : Image isValue p′ s rows
     im = decode-exact isValue p′ s rows q
 
@@ -160,6 +163,7 @@ module _ (size : ℕ) (s : Bytes) where
     abbrev qs : List Keyed
     qs = building (p′ .shards) rows
 
+    -- the book is told of each store as it is
     row-told : (i : ℕ) → Each (λ it. arena.All (λ en. Told size (length s) pass (storing it en)) (it .entries)) (rows i)
     row-told i =
         byTest (ltb i (p′ .shards))
@@ -182,12 +186,14 @@ module _ (size : ℕ) (s : Bytes) where
         not-yet p′ (plus 0 0 0) rows (λ j. im .formed .fine j .sound) (p′ .shards) i (ltb-false i (p′ .shards) e)
         ∙ sym (im .formed .beyond i (ltb-false i (p′ .shards) e)))
 
+    -- the setup that they start from: mode 0, a default TTL of 0, counts of 0, and the arena as it is
     no-counts : Counted (plus 0 0 0)
     no-counts = record { hits = omega arith; misses = omega arith; invalidates = omega arith }
 
     sets-up : setupBy size 0 0 s .cause ≡ noCause
     sets-up = rw (is-fine size (length s) 0 0 pass) refl
 
+    -- so they leave these bytes
     image-left : LeftBy size s
     image-left =
         record {
@@ -215,8 +221,8 @@ module _ (size : ℕ) (s : Bytes) where
 
 -- ---- the theorem
 
-pub cause-nine : CauseNine
-cause-nine size c h a b ne = (λ e l. by-decode e l (decode isValue (p size h) (h .arena)) refl, λ f. to-nine f (decode isValue (p size h) (h .arena)) refl)
+pub nine : CauseNine
+nine size c h a b ne = (λ e l. by-decode e l (decode isValue (p size h) (h .arena)) refl, λ f. to-nine f (decode isValue (p size h) (h .arena)) refl)
   where
     pass : refused size (modeIn c) (length (h .arena)) ≡ false
     pass = passes size h c a ne

@@ -31,6 +31,7 @@ booked size n c bk =
     }
 
 module _ (size n : ℕ) (z : Sized (setupWith size n) n) (bk : Book) (w : WellFormed isValue (setupWith size n) (bk .rows)) where
+  -- the book's setup
   abbrev p : Setup
   p = setupWith size n
 
@@ -55,6 +56,7 @@ module _ (size n : ℕ) (z : Sized (setupWith size n) n) (bk : Book) (w : WellFo
       → _≡_ {A = Stepped} (record { return = said c; held = withArena (left c .arena) (lend p n bk) }) (booked size n c bk)
   rest-held c a e = λ i. record { return = said c; held = arena-held p n (bookCall size n c) bk (told-free p (bk .next) bk size n c a) e i }
 
+  -- call by call
   lookup-is : (m d t e : ℕ) (k c : Bytes) → step size (lookup m d t e k c) (lend p n bk) ≡ booked size n (lookup m d t e k c) bk
   lookup-is m d t e k c = either (lookup m d t e k c) tt (unfold modeIn in λ f. lookup-step size n m d f bk w t e k c ∙ next-held (lookup m d t e k c) tt)
 

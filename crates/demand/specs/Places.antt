@@ -50,6 +50,7 @@ module _ (x : ℕ) (ns : List Node) where
   none-waits (filled v ∷ ps) q = ap (λ (z : List Got). got v ∷ z) (none-waits ps q)
   none-waits (waiting w ∷ ps) q = absurd (let z : suc (length (missing ps)) ≡ 0 = ap length q in omega arith)
 
+  -- the place of one key, and those of several
   one-place : (pl : Place) → placesIn (nodesOf (item (singleItem pl x)) ++ ns) ≡ gotOf pl ∷ placesIn ns
   unfolding placesIn nodesOf servedNodes missingNodes singleItem gotOf
   one-place (filled v) = refl

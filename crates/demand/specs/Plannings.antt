@@ -75,6 +75,7 @@ module _ (g : Settings) (t e : ℕ) (bytes d f : Bytes) (p : Setup) (bk : Book) 
     pub return : r ≡ written said
 
   module _ (few : ltb maxBytes (length bytes) ≡ false) (fine : checkDef bytes ≡ Valid) (intime : anyLate g t (recordAt bytes .commands) ≡ false) where
+    -- the book is told of its lookups, and replies with their answers unless a buffer is short
     call-is : call ≡ calls.planning t e ws (short g t (recordAt bytes) (length d) (length f))
     unfolding told.bookCall judgedCall callOf
     call-is = rw (few, fine, intime)
@@ -88,6 +89,7 @@ module _ (g : Settings) (t e : ℕ) (bytes d f : Bytes) (p : Setup) (bk : Book) 
         byTest (short g t (recordAt bytes) (length d) (length f) said) (λ u. absurd (Option·none-ne-some x (rw u at z)))
         (λ u. Option·some-injective said x (rw u at z))
 
+    -- cause 5, then causes 4 and 2: where none of them refuses it, it passes
     by-reply : (o : Reply) → replyTo p call bk ≡ o → causeOf (planReply t bytes d f g o) ≡ noCause → Passing (planReply t bytes d f g o)
     unfolding planReply causeOf
     by-reply none q k = absurd (let z : _≡_ {A = ℕ} 5 0 = k in omega arith)
@@ -115,6 +117,7 @@ module _ (g : Settings) (t e : ℕ) (bytes d f : Bytes) (p : Setup) (bk : Book) 
     abbrev pub results : List CachingResult
     results = outcomes g t (recordAt bytes .commands) said
 
+    -- its bytes are a record, so the plan reads back
     is-record : IsRecord bytes
     is-record = check-fine bytes .0 (x .fine)
 

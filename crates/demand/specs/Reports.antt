@@ -44,6 +44,7 @@ use Rattle.demand.specs.Laws.{setup-proper}
 use Rattle.demand.specs.BookCalls.{of-single, of-push, of-planning, of-fine}
 
 module _ (size n : ℕ) (p : Setup) (o : Proper p) (lent : Counts) (before : List Call) where
+  -- the book before the call
   abbrev bk : Book
   bk = afterCalls p before (fresh lent)
 
@@ -68,6 +69,7 @@ module _ (size n : ℕ) (p : Setup) (o : Proper p) (lent : Counts) (before : Lis
   abbrev Lacks : Call → Type 0
   Lacks c = 0 ≡ lackingIn p c bk
 
+  -- a refused call, and each kind but resolvings
   refused-lacks : Lacks calls.refused
   unfolding lackingIn
   refused-lacks = refl
@@ -99,6 +101,7 @@ module _ (size n : ℕ) (p : Setup) (o : Proper p) (lent : Counts) (before : Lis
       ap refusedOf (x .1) ∙ x .2
 
   module _ (t e : ℕ) (replies answer : Bytes) where
+    -- past causes 7 and 8, then 6 and 10, then 1
     resolved-lacks : (pl : nodes.Plan) (v : Resolved)
         → reportedBy (resolvedReply t replies answer pl v (replyTo p (toldTo (pl .transaction) e v (length answer)) bk))
         ≡ lackingIn p (toldTo (pl .transaction) e v (length answer)) bk
@@ -123,6 +126,7 @@ module _ (size n : ℕ) (p : Setup) (o : Proper p) (lent : Counts) (before : Lis
     resolving-lacks plan BadConfig = unfold reportedBy lackingIn in refl
     resolving-lacks plan (Fine g) = plan-lacks g (decodePlan plan)
 
+  -- every call
   pub reported-for : (c : RealCall) → reportedBy (returnFor size n c (replyTo p (bookCall size n c) bk)) ≡ lackingIn p (bookCall size n c) bk
   unfolding returnFor bookCall
   reported-for (real.planning m d t e bytes plan send) =

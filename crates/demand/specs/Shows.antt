@@ -50,6 +50,7 @@ pub data Shows (p : Setup) (bk : Book) (c : Call) (r : Return) : Type 0 where
 -- ---- a planning and a single lookup
 
 module _ (p : Setup) (bk : Book) where
+  -- a planning shows a place for each lookup, with its answer
   passing-shows : (g : Settings) (t e : ℕ) (bytes d f : Bytes) → WellFormed isValue p (bk .rows) → {r : Return} → Passing g t e bytes d f p bk r
       → Shows p bk (told.bookCall g t e bytes (length d) (length f)) r
   unfolding eventsOf
@@ -70,6 +71,7 @@ module _ (p : Setup) (bk : Book) where
   abbrev lookReturn : CheckedConfig → Keyed → Reply → Return
   lookReturn x q o = real.lookedUp (record { cause = singleNumber x q o; hit = flagOf (singleValue x o) }) (bytesOf (singleValue x o))
 
+  -- a number of 0 goes with an answer that is shown
   answer-shown : (a : Answer) → one.numberOf a ≡ noCause
       → gotsOf (real.lookedUp (record { cause = one.numberOf a; hit = flagOf (one.servedBy a) }) (bytesOf (one.servedBy a))) ≡ gotBy a ∷ []
   unfolding gotsOf gotBy one.numberOf one.servedBy
@@ -84,6 +86,7 @@ module _ (p : Setup) (bk : Book) where
     abbrev q : Keyed
     q = book.lookup k c t e
 
+    -- a lookup that passes shows its answer, and one that cause 3 refuses does not pass
     single-shows : (g : Settings) → causeOf (lookReturn (Fine g) q (replyTo p (calls.single q) bk)) ≡ noCause
         → Shows p bk (calls.single q) (lookReturn (Fine g) q (replyTo p (calls.single q) bk))
     unfolding causeOf singleNumber singleValue singles.outcomeNumber singles.outcomeValue outcomeOf call-defs ons answers lookupsIn
@@ -102,9 +105,11 @@ module _ (p : Setup) (bk : Book) where
 
 -- ---- calls without lookups
 
+-- no event is a lookup
 abbrev Quiet : Call → Type 0
 Quiet c = lookupsIn (eventsOf c) ≡ 0
 
+-- a refused call, and each kind but plannings and lookups
 refused-quiet : Quiet calls.refused
 unfolding lookupsIn eventsOf
 refused-quiet = refl
