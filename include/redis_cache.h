@@ -47,6 +47,12 @@ typedef struct {
     uint64_t next;
 } redis_cache_setup_return;
 
+/* What a new epoch returns: the number that it takes and the next epoch number. */
+typedef struct {
+    uint64_t epoch;
+    uint64_t next;
+} redis_cache_epoch_return;
+
 /* What a lookup returns: hit is 1 where a value is served, else 0. */
 typedef struct {
     uint64_t cause;
@@ -116,6 +122,10 @@ redis_cache_resolve_return redis_cache_resolve(uint8_t *arena, size_t arena_len,
  * stands there; any other push, and any other value, is ignored and returns 0. Causes: 1, 9, 6. */
 uint64_t redis_cache_push(uint8_t *arena, size_t arena_len, uint64_t size, uint64_t mode, uint64_t ttl, const uint8_t *push, size_t push_len,
                           uint64_t (*counts)[3]);
+
+/* Takes a new epoch: `next` is the next epoch number as setup or the new epoch before it returned it. It is the epoch taken, and what is returned as next
+ * is one more, 0 after 2^64 - 1. What is kept under other epochs is not served under it. Nothing refuses it. */
+redis_cache_epoch_return redis_cache_new_epoch(uint64_t next);
 
 /* The counts at this moment. Nothing refuses it. */
 redis_cache_statistics redis_cache_counts(const uint64_t (*counts)[3]);

@@ -2,3 +2,5 @@ pub mod Exported
 pub mod Pushed
 pub mod Resolved
 pub mod Planned
+pub mod Epoch
+pub mod EpochCases

@@ -1,6 +1,7 @@
 // The cache's C linkage: every exported function, thin over the calls below. include/redis_cache.h declares them and says what each parameter means.
 // Contracts equate what comes out with the definitions that the calls have; a slice crosses as a pointer and a length. The single calls stand here,
 // each of the others in a file of its own.
+pub mod epoch_call;
 pub mod plan_call;
 pub mod push_call;
 pub mod resolve_call;

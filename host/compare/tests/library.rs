@@ -12,7 +12,7 @@ use compare::party::{Library, Party};
 use compare::rng::Rng;
 use model::plan::Plan;
 use model::{Model, config, layout};
-use redis_cache::{Cache, Cause, Counts, Now, Settings};
+use redis_cache::{Cache, Cause, Counts, Now, Settings, new_epoch};
 
 #[test]
 fn setups_at_the_limits() {
@@ -55,6 +55,21 @@ fn numbers_wider_than_they_may_be_and_the_longest_arena() {
     let mut longest = Guarded::zeros((1 << 31) + 1, Side::Behind);
     assert_eq!(with(longest.bytes_mut(), 1, 0), refused);
     assert_eq!(with(&mut longest.bytes_mut()[..1 << 31], 1, 0), None);
+}
+
+/// The next epoch number wraps as the model's does.
+#[test]
+fn the_next_epoch_wraps() {
+    let mut model = Model::setup(&setup(4)).expect("a setup");
+    let mut next = u64::MAX;
+    model.set_next_epoch(next);
+    for expected in [u64::MAX, 0, 1] {
+        let taken = new_epoch(next);
+        next = taken.next;
+        let answer = model.call(at(0), &Call::NewEpoch);
+        assert_eq!(answer, Answer::Epoch(expected));
+        assert_eq!((taken.epoch, next), (expected, model.state().next_epoch));
+    }
 }
 
 /// Settings that are none are refused first in every call, whatever else is wrong with it.

@@ -25,6 +25,13 @@ struct NewCache {
     next: u64,
 }
 
+/// `redis_cache_epoch_return` of the header.
+#[repr(C)]
+struct NewEpoch {
+    epoch: u64,
+    next: u64,
+}
+
 /// `redis_cache_lookup_return` of the header.
 #[repr(C)]
 struct Found {
@@ -84,6 +91,8 @@ unsafe extern "C" {
         key_length: usize,
         counts: *mut Counts,
     ) -> u64;
+
+    fn redis_cache_new_epoch(next: u64) -> NewEpoch;
 
     fn redis_cache_counts(counts: *const Counts) -> Counts;
 }
@@ -198,6 +207,15 @@ pub(crate) fn invalidate(
             counts,
         )
     })
+}
+
+pub(crate) fn new_epoch(next: u64) -> Epochs {
+    // SAFETY: the number may be any.
+    let new = unsafe { redis_cache_new_epoch(next) };
+    Epochs {
+        epoch: new.epoch,
+        next: new.next,
+    }
 }
 
 pub(crate) fn counts(counts: &Counts) -> Counts {

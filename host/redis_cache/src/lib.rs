@@ -66,10 +66,10 @@ pub struct Counts {
     pub invalidate: u64,
 }
 
-/// What setup leaves beside the arena.
+/// The epoch that setup or a new epoch takes, and the number that is left.
 #[derive(Clone, Copy, Debug, PartialEq, Eq)]
 pub struct Epochs {
-    /// The epoch that the first connection has.
+    /// The epoch taken: the connection's from now on.
     pub epoch: u64,
     /// The number that the next new epoch takes.
     pub next: u64,
@@ -146,6 +146,12 @@ impl Cache<'_> {
     pub fn invalidate(&mut self, key: &[u8], counts: &mut Counts) -> Result<(), Cause> {
         foreign::invalidate(self.arena, self.settings, key, counts)
     }
+}
+
+/// `ShardedLRU::increase_epoch`: takes the next number, which setup or the new epoch before left, as the epoch of a new
+/// connection. What is kept under another epoch is not served under it. Numbers wrap at 64 bits; nothing refuses it.
+pub fn new_epoch(next: u64) -> Epochs {
+    foreign::new_epoch(next)
 }
 
 /// Reads the counts through the library.

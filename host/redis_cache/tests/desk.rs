@@ -2,7 +2,7 @@
 
 use redis_cache::{
     Cache, Cause, Counts, Epochs, Looked, MODE_ALL, Now, PlanRefusal, Resolved, Responses,
-    Settings, read_counts,
+    Settings, new_epoch, read_counts,
 };
 
 const SETTINGS: Settings = Settings {
@@ -38,6 +38,31 @@ fn a_catch_is_served_until_its_expiry() {
         invalidate: 1,
     };
     assert_eq!((counts, read_counts(&counts)), (after, after));
+}
+
+/// A new connection takes the next number, and nothing kept before is served under it; after the last number comes 0.
+#[test]
+fn a_new_epoch_is_served_nothing_old() {
+    let mut arena = vec![0; 1 << 16];
+    let mut counts = Counts::default();
+    let mut cache = Cache {
+        arena: &mut arena,
+        settings: SETTINGS,
+    };
+    let first = cache.setup().expect("these settings");
+    let second = new_epoch(first.next);
+    assert_eq!((second.epoch, second.next), (1, 2));
+    let stored = cache.store(first.epoch, b"trap7", b"GETtrap7", CATCH, 500);
+    assert_eq!(stored, Ok(()));
+    let mut under = |epoch| {
+        let now = Now { clock: 0, epoch };
+        let looked = cache.lookup(now, b"trap7", b"GETtrap7", &mut counts);
+        looked.map(|found| found == Looked::Hit(CATCH))
+    };
+    assert_eq!(under(first.epoch), Ok(true));
+    assert_eq!(under(second.epoch), Ok(false));
+    let last = new_epoch(u64::MAX);
+    assert_eq!((last.epoch, last.next), (u64::MAX, 0));
 }
 
 /// A served value is a part of the arena; an invalidated one is gone.

@@ -1,5 +1,5 @@
 /* A C program over include/redis_cache.h: a value is stored, served as a part of the arena, dropped past its expiry and counted; a record is
- * planned, its plan resolved, what was fetched served, and dropped by a push.
+ * planned, its plan resolved, what was fetched served, and dropped by a push; epochs are taken.
  * Ends with 0 where all is as it should be, else with the number of the line that is not. */
 #include "redis_cache.h"
 #include <string.h>
@@ -47,6 +47,11 @@ int main(void)
     EXPECT(redis_cache_push(arena, sizeof arena, 4, 0, 100, TEXT(">2\r\n$10\r\ninvalidate\r\n_\r\n"), &counts) == 0);
     planned = redis_cache_plan(arena, sizeof arena, 4, 0, 100, 0, 0, TEXT("TRP\1\0\0\2"), &counts, plan, sizeof plan, send, sizeof send);
     EXPECT(planned.cause == 2 && planned.at == 7);
+
+    redis_cache_epoch_return taken = redis_cache_new_epoch(fresh.next);
+    EXPECT(taken.epoch == 1 && taken.next == 2);
+    taken = redis_cache_new_epoch(UINT64_MAX);
+    EXPECT(taken.epoch == UINT64_MAX && taken.next == 0);
 
     redis_cache_statistics read = redis_cache_counts((const uint64_t(*)[3]) & counts);
     EXPECT(read.hit == 2 && read.miss == 2 && read.invalidate == 2);

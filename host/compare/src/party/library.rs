@@ -9,7 +9,7 @@ use super::Party;
 use crate::guarded::{Guarded, Side};
 use calls::{Answer, At, Call, Refusal, Setup, State};
 use model::layout;
-use redis_cache::{Cache, Cause, Counts, Looked, Now, Settings, read_counts};
+use redis_cache::{Cache, Cause, Counts, Epochs, Looked, Now, Settings, new_epoch, read_counts};
 
 /// What stands around the counts.
 const BESIDE: Counts = Counts {
@@ -208,10 +208,9 @@ impl Party for Library {
                 let (mut cache, counts) = library.with_counts(at);
                 done(cache.invalidate(parts[0], counts))
             }),
-            // The library exports no call for this: who holds the next number hands it out.
             Call::NewEpoch => {
-                let epoch = self.next_epoch;
-                self.next_epoch = epoch.wrapping_add(1);
+                let Epochs { epoch, next } = new_epoch(self.next_epoch);
+                self.next_epoch = next;
                 Answer::Epoch(epoch)
             }
         })

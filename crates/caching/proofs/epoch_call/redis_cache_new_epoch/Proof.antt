@@ -1,0 +1,15 @@
+-- `caching::epoch_call::redis_cache_new_epoch` meets its contract: the number left is the definition's. Assumes nothing.
+use borrow.Author.Needs.{needs}
+use Rattle.caching.proofs.epoch_call.redis_cache_new_epoch.Statement.{statement}
+use Rattle.caching.proofs.epoch_call.redis_cache_new_epoch.Tie as tie
+
+-- src/epoch_call.rt:26:17
+increase-epoch-requires : tie.Need-increase-epoch-requires
+increase-epoch-requires c κs = search needs
+
+-- src/epoch_call.rt:22:1
+returns : tie.Need-returns
+returns c = rw (c .increase-epoch .ensures)
+
+pub redis-cache-new-epoch-spec : {M : Type 1} → statement M
+redis-cache-new-epoch-spec = tie.close (tie.spec increase-epoch-requires returns)
