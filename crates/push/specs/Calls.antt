@@ -6,6 +6,7 @@ use native.Mathlib.Omega.{arith}
 use mathlib.Core.Bool.{Bool, true, false, cond}
 use mathlib.Core.Option.{Option, none, some}
 use lib.ListN.{length}
+use lib.Dec.{eqb}
 use Rattle.buffer.specs.Cases.{byTest}
 use Rattle.buffer.specs.Same.{Bytes}
 use Rattle.config.specs.Causes.{badConfig, badArena, badReply}
@@ -29,8 +30,9 @@ use Rattle.sharded_lru.specs.Lent.{setupNow}
 use Rattle.sharded_lru.specs.Admit.{admittedBy, admitted, Entered}
 use Rattle.sharded_lru.specs.declared.Admitted.the-variants.{Admits, Refused as NotAdmitted}
 use Rattle.single_calls.specs.declared.Answered.the-variants.{Done, Refused}
-use Rattle.single_calls.specs.Single.{Return, refusedAs}
+use Rattle.single_calls.specs.Single.{noCause, Return, refusedAs}
 use Rattle.single_calls.specs.Answers.{countsOf, holding, InvalidationLeft}
+use Rattle.single_calls.specs.AnswerLaws.{refused-is}
 use Rattle.push.specs.Push.{callFor, pushedOn, imaged, configured, pushCall}
 use Rattle.push.specs.Kept.{Kept, One}
 
@@ -86,9 +88,10 @@ one-value bytes e = record { value = decode bytes; means = value-means bytes e }
 
 -- ---- what is left
 
-pub push-refused : (d : Return) (n : ℕ) (s : Bytes) (c : Statistics) (next : ℕ) → d ≡ refusedAs n (holding s (countsOf c) next)
+pub push-refused : (d : Return) (n : ℕ) → eqb n noCause ≡ false → (s : Bytes) (c : Statistics) (next : ℕ) → d ≡ refusedAs n (holding s (countsOf c) next)
     → InvalidationLeft d s (record { answer = Refused n; counts = c })
-push-refused d n s c next e = rw e (record { cause = refl; arena = refl; counts = refl })
+push-refused d n f s c next e =
+    rw e (record { answer = refused-is (refusedAs n (holding s (countsOf c) next)) n f refl; cause = refl; arena = refl; counts = refl })
 
 pub push-left : (g : Settings) (rows : ℕ → Row) (bytes s u : Bytes) (lent : Counts) (next : ℕ) (sum : Statistics) (d : Return)
     → d ≡ pushedOn (setupNow g) rows bytes (holding s lent next) → length u ≡ length s
@@ -98,7 +101,7 @@ unfolding pushedOn lend
 push-left g rows bytes s u lent next sum d e l k =
     let bk = afterCall (setupNow g) (pushed (decode bytes)) (bookOf rows (holding s lent next)) in
     rw e
-    (record { cause = refl; arena = sym (k .lent .image .bytes) ∙ ap (λ (n : ℕ). encode (setupNow g) n (bk .rows)) l; counts = k .counts })
+    (record { answer = refl; cause = refl; arena = sym (k .lent .image .bytes) ∙ ap (λ (n : ℕ). encode (setupNow g) n (bk .rows)) l; counts = k .counts })
 
 -- ---- the book's call on bytes
 

@@ -2,6 +2,7 @@
 use mathlib.Core.Path.{refl, sym, _∙_}
 use borrow.Author.Tests.{not-true, not-false}
 use Rattle.sharded_lru.specs.Admit.{admits, enter}
+use Rattle.single_calls.specs.AnswerLaws.{not-admitted-cause}
 use Rattle.push.specs.Calls.{not-admitted, is-admitted, bad-bytes, good-bytes, value-means, one-value, push-refused, push-left}
 use borrow.Author.Needs.{needs}
 use Rattle.push.proofs.handle_push.Statement.{statement}
@@ -25,7 +26,7 @@ same-length c = search needs
 returns : tie.Need-returns
 returns c = λ next.
     let w = admits _ _ _ _ _ (sym (c .before .before .before .before .before .admit .ensures) ∙ c .before .before .before .g .given .1) in
-    push-refused _ _ _ _ next (is-admitted _ _ _ _ _ _ _ next w ∙ bad-bytes _ _ _ _ (sym (c .before .is-value .ensures) ∙ not-true _ (c .if1 .taken)))
+    push-refused _ _ refl _ _ next (is-admitted _ _ _ _ _ _ _ next w ∙ bad-bytes _ _ _ _ (sym (c .before .is-value .ensures) ∙ not-true _ (c .if1 .taken)))
 
 push-in-requires : tie.Need-push-in-requires
 push-in-requires c κs = (enter _ _ _ _ _ (sym (c .before .before .before .before .before .before .admit .ensures) ∙ c .before .before .before .before .g .given .1), one-value _ (sym (c .before .before .is-value .ensures) ∙ not-false _ (c .before .if1 .left)))
@@ -34,7 +35,9 @@ same-length-2 : tie.Need-same-length-2
 same-length-2 c = search needs
 
 returns-2 : tie.Need-returns-2
-returns-2 c = λ next. push-refused _ _ _ _ next (not-admitted _ _ _ _ _ _ _ next (sym (c .before .before .before .admit .ensures) ∙ c .before .n .given .1))
+returns-2 c = λ next.
+    let e = sym (c .before .before .before .admit .ensures) ∙ c .before .n .given .1 in
+    push-refused _ _ (not-admitted-cause _ _ _ _ _ e) _ _ next (not-admitted _ _ _ _ _ _ _ next e)
 
 same-length-3 : tie.Need-same-length-3
 same-length-3 c = search needs
