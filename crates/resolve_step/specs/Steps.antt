@@ -43,6 +43,24 @@ elementBytes p s (Keep m a e) = part s a (e - a)
 elementBytes p s Pass = []
 elementBytes p s Wrong = []
 
+-- which of the two, plan or replies, that is; what hands out nothing is told as a part of no bytes at the plan's start
+abbrev pub holderOf {ℓ} : {A : Type ℓ} → Next → A → A → A
+holderOf (Plan a e) p s = p
+holderOf (Reply a e) p s = s
+holderOf (Head n) p s = p
+holderOf (Keep m a e) p s = s
+holderOf Pass p s = p
+holderOf Wrong p s = p
+
+-- and where in it the part begins
+abbrev pub elementStart : Next → ℕ
+elementStart (Plan a e) = a
+elementStart (Reply a e) = a
+elementStart (Head n) = 0
+elementStart (Keep m a e) = a
+elementStart Pass = 0
+elementStart Wrong = 0
+
 -- the bytes of the answer
 abbrev pub nextBytes : Bytes → Bytes → Next → Bytes
 nextBytes p s (Plan a e) = part p a (e - a)

@@ -13,7 +13,7 @@ element-part-requires : tie.Need-element-part-requires
 element-part-requires c κs = search needs
 
 copy-to-requires : tie.Need-copy-to-requires
-copy-to-requires c κs = rw (c .before .element-part .ensures) (c .before .before .before .before .before .pre .1)
+copy-to-requires c κs = rw (c .before .element-part .ensures .0) (c .before .before .before .before .before .pre .1)
 
 add-result : tie.Need-add-result
 add-result c = search needs
@@ -22,7 +22,7 @@ same-length : tie.Need-same-length
 same-length c = search needs
 
 returns : tie.Need-returns
-returns c = let x = c .before .before .before .before .before .before .before .before .args in (ap (λ (b : Bytes). x .at + length b) (c .before .before .before .before .element-part .ensures), c .before .before .copy-to .ensures ∙ ap (λ (b : Bytes). put (now (x .out)) (x .at) b) (c .before .before .before .before .element-part .ensures))
+returns c = let x = c .before .before .before .before .before .before .before .before .args in (ap (λ (b : Bytes). x .at + length b) (c .before .before .before .before .element-part .ensures .0), c .before .before .copy-to .ensures ∙ ap (λ (b : Bytes). put (now (x .out)) (x .at) b) (c .before .before .before .before .element-part .ensures .0))
 
 pub copy-element-spec : {M : Type 1} → statement M
 copy-element-spec =

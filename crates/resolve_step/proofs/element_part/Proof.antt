@@ -1,4 +1,5 @@
 -- `resolve_step::element_part` meets its contract. Assumes nothing.
+use mathlib.Core.Path.{refl}
 use native.Mathlib.Omega.{arith}
 use Rattle.buffer.specs.Part.{part}
 use borrow.Author.Needs.{needs}
@@ -61,24 +62,24 @@ slice-aggregate-result-3 c = search needs
 
 returns : tie.Need-returns
 unfolding part
-returns c = rw (c .before .before .next .given .1)
+returns c = rw (c .before .before .next .given .1) (refl, (refl, refl))
 
 returns-2 : tie.Need-returns-2
 unfolding part
-returns-2 c = rw (c .before .before .next2 .given .1)
+returns-2 c = rw (c .before .before .next2 .given .1) (refl, (refl, refl))
 
 returns-3 : tie.Need-returns-3
 unfolding part
-returns-3 c = rw (c .before .before .next3 .given .1)
+returns-3 c = rw (c .before .before .next3 .given .1) (refl, (refl, refl))
 
 returns-4 : tie.Need-returns-4
-returns-4 c = search needs
+returns-4 c = rw (c .before .enum-told .given .1) (refl, (refl, omega arith))
 
 returns-5 : tie.Need-returns-5
-returns-5 c = search needs
+returns-5 c = rw (c .before .enum-told2 .given .1) (refl, (refl, omega arith))
 
 returns-6 : tie.Need-returns-6
-returns-6 c = search needs
+returns-6 c = rw (c .before .enum-told3 .given .1) (refl, (refl, omega arith))
 
 pub element-part-spec : {M : Type 1} → statement M
 element-part-spec =
