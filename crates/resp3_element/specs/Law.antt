@@ -28,7 +28,7 @@ use Rattle.resp3.specs.Complete.{num-reads, length-reads}
 use Rattle.resp3_element.specs.declared.Range.{Range}
 use Rattle.resp3_element.specs.declared.Integer.the-variants.{Is, No as NoInteger}
 use Rattle.resp3_element.specs.Meaning.{valueKind, ofKind, isError, integerOf, blobOf}
-use Rattle.resp3_element.specs.Places.{integerAt, noRange, rangeOf, rangeAt}
+use Rattle.resp3_element.specs.Places.{errorAt, integerAt, noRange, rangeOf, rangeAt, inRange}
 
 -- a value's bytes are those of its encoding
 pub bytes-are : (s : Bytes) (v : Value) → Means s v → s ≡ enc v []
@@ -74,6 +74,13 @@ error-yes s v b m h e = rw (← first-is s v SimpleError b m h, eq-eqb b (byteOf
 -- a blob error, or none
 pub error-else : (s : Bytes) (v : Value) (b : ℕ) → Means s v → b ≡ getD s 0 0 → ((b ≡ byteOf SimpleError) → ⊥) → eqb b (byteOf BlobError) ≡ isError v
 error-else s v b m h e = rw (← first-is s v SimpleError b m h, ne-eqb b (byteOf SimpleError) e) (first-is s v BlobError b m h)
+
+-- the same of any bytes
+pub error-at-yes : (s : Bytes) (b : ℕ) → b ≡ getD s 0 0 → b ≡ byteOf SimpleError → true ≡ errorAt s
+error-at-yes s b h e = rw (← h, eq-eqb b 45 e)
+
+pub error-at-else : (s : Bytes) (b : ℕ) → b ≡ getD s 0 0 → ((b ≡ byteOf SimpleError) → ⊥) → eqb b (byteOf BlobError) ≡ errorAt s
+error-at-else s b h e = rw (← h, ne-eqb b 45 e)
 
 -- ---- integers
 
@@ -147,10 +154,6 @@ range-there s = byTest (eqb (getD s 0 0) 36) (λ t. rw t (go (lengthAt s 1) refl
 -- so does what it answers
 pub range-in : (s : Bytes) (p : Range) → p ≡ rangeAt s → InRange s p
 range-in s p e = rw e (range-there s)
-
--- the bytes there
-abbrev pub inRange : Bytes → Range → Bytes
-inRange s p = take (p .end - p .at) (drop (p .at) s)
 
 -- a value of another kind has none
 blob-not : (s : Bytes) (v : Value) → Means s v → ofKind BlobString v ≡ false → inRange s (rangeAt s) ≡ []

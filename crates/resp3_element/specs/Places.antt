@@ -1,9 +1,9 @@
--- What is read at places of a slice: what the code computes. Assumes nothing: these are definitions.
--- Nobody has to believe them: specs/Law.antt shows that on a value's bytes they find what specs/Meaning.antt says.
-use mathlib.Core.Bool.{cond}
+-- What is read at places of a slice: what the code answers on any bytes, those that are no value too. Assumes nothing: these are definitions.
+-- specs/Law.antt shows that on a value's bytes they find what specs/Meaning.antt says.
+use mathlib.Core.Bool.{Bool, true, cond}
 use Prim.Native.Nat.{ℕ, _+_, _-_}
 use lib.Dec.{eqb, leb}
-use lib.ListN.{length, getD}
+use lib.ListN.{length, getD, take, drop}
 use lib.IntN.{pos, negsuc}
 use Rattle.buffer.specs.Same.{Bytes}
 use Rattle.config.specs.Limits.{maxDepth}
@@ -34,6 +34,10 @@ standAt s at left = record { at = at; end = cond (eqb left 0) at (endElse at (va
 unfoldable pub listAt : ℕ → Bytes → Elements
 listAt b s = cond (eqb (getD s 0 0) b) (numCase (lengthAt s 1) (λ n e. Of (standAt s e n)) NoList) NoList
 
+-- the first byte is a server error's
+abbrev pub errorAt : Bytes → Bool
+errorAt s = cond (eqb (getD s 0 0) 45) true (eqb (getD s 0 0) 33)
+
 -- an integer behind a minus
 abbrev pub minusOf : Num → Integer
 minusOf (Val n e) = cond (eqb n 0) NoInteger (Is (negsuc (n - 1)))
@@ -62,3 +66,7 @@ rangeOf s n e = cond (leb n (length s - e)) (record { at = e; end = e + n }) noR
 -- where a blob string's bytes stand
 unfoldable pub rangeAt : Bytes → Range
 rangeAt s = cond (eqb (getD s 0 0) 36) (numCase (lengthAt s 1) (λ n e. rangeOf s n e) noRange) noRange
+
+-- the bytes of a range
+abbrev pub inRange : Bytes → Range → Bytes
+inRange s p = take (p .end - p .at) (drop (p .at) s)

@@ -1,16 +1,19 @@
 // What planning, resolving and pushes ask of a checked RESP3 value: its kind, its elements, its integer, its bytes.
-// Every function takes a slice that is exactly one value; elements and blobs are handed out as parts of it.
-// specs/Meaning.antt says what each answer means for the value that the bytes are.
+// Callers give a slice that is exactly one value; elements and blobs are handed out as parts of it.
+// specs/Meaning.antt says what each answer means for the value that the bytes are, specs/Places.antt what it is for any bytes.
 use decimal::Num;
 use resp3::End;
 use resp3::Kind;
 ghost use mathlib.Core.Path.{_≡_};
 ghost use Prim.Native.Nat.{_-_, _≤_, _<_, _^_};
+ghost use lib.Dec.{eqb};
 ghost use lib.ListN.{getD};
 ghost use lib.IntN.{pos, negsuc};
+ghost use Rattle.buffer.specs.Part.{part};
+ghost use Rattle.resp3.specs.Kinds.{kindOf};
 ghost use Rattle.resp3.specs.Value.{Value, Values, more, Means};
 ghost use Rattle.resp3_element.specs.Meaning.{valueKind, isError, isNull, integerOf, blobOf, arrayOf, pushOf, Inside, Stands, Holds};
-ghost use Rattle.resp3_element.specs.Places.{standAt, listAt, integerAt, rangeAt};
+ghost use Rattle.resp3_element.specs.Places.{standAt, listAt, errorAt, integerAt, inRange, rangeAt};
 
 // Stands at an element of a list: where that begins and ends, and how many elements there are from it on.
 pub struct Cursor {
@@ -43,14 +46,16 @@ fn first_byte(s: &[u8]) -> u8
 
 // The value's kind.
 pub fn kind(s: &[u8]) -> Kind
-    ensures { λ r. ⌜ ((v : Value) → Means (now (s .entry)) v → r ≡ valueKind v) ⌝ }
+    ensures value { λ r. ⌜ ((v : Value) → Means (now (s .entry)) v → r ≡ valueKind v) ⌝ }
+    ensures any { λ r. ⌜ r ≡ kindOf (getD (now (s .entry)) 0 0) ⌝ }
 {
     resp3::kind_of(first_byte(s))
 }
 
 // Whether it is a server error.
 pub fn is_error(s: &[u8]) -> bool
-    ensures { λ r. ⌜ ((v : Value) → Means (now (s .entry)) v → r ≡ isError v) ⌝ }
+    ensures value { λ r. ⌜ ((v : Value) → Means (now (s .entry)) v → r ≡ isError v) ⌝ }
+    ensures any { λ r. ⌜ r ≡ errorAt (now (s .entry)) ⌝ }
 {
     let b = first_byte(s);
     if b == b'-' {
@@ -61,7 +66,8 @@ pub fn is_error(s: &[u8]) -> bool
 
 // Whether it is `_`.
 pub fn is_null(s: &[u8]) -> bool
-    ensures { λ r. ⌜ ((v : Value) → Means (now (s .entry)) v → r ≡ isNull v) ⌝ }
+    ensures value { λ r. ⌜ ((v : Value) → Means (now (s .entry)) v → r ≡ isNull v) ⌝ }
+    ensures any { λ r. ⌜ r ≡ eqb (getD (now (s .entry)) 0 0) 95 ⌝ }
 {
     first_byte(s) == b'_'
 }
@@ -108,7 +114,8 @@ fn integer_at(s: &[u8]) -> Integer
 
 // The integer that it is, if it is one.
 pub fn number(s: &[u8]) -> Integer
-    ensures { λ r. ⌜ ((v : Value) → Means (now (s .entry)) v → r ≡ integerOf v) ⌝ }
+    ensures value { λ r. ⌜ ((v : Value) → Means (now (s .entry)) v → r ≡ integerOf v) ⌝ }
+    ensures any { λ r. ⌜ r ≡ integerAt (now (s .entry)) ⌝ }
 {
     integer_at(s)
 }
@@ -134,7 +141,8 @@ fn range_at(s: &[u8]) -> Range
 
 // The bytes of a blob string, a part of the slice; of any other value none.
 pub fn blob(s: &[u8]) -> &[u8]
-    ensures { λ r. ⌜ ((v : Value) → Means (now (s .entry)) v → now r ≡ blobOf v) ⌝ }
+    ensures value { λ r. ⌜ ((v : Value) → Means (now (s .entry)) v → now r ≡ blobOf v) ⌝ }
+    ensures any { λ r. ⌜ now r ≡ inRange (now (s .entry)) (rangeAt (now (s .entry))) ⌝ }
 {
     let p = range_at(s);
     let a = p.at;
@@ -170,14 +178,16 @@ fn list(s: &[u8], b: u8) -> Elements
 
 // The elements of an array.
 pub fn array(s: &[u8]) -> Elements
-    ensures { λ r. ⌜ ((v : Value) → Means (now (s .entry)) v → Holds (now (s .entry)) r (arrayOf v)) ⌝ }
+    ensures value { λ r. ⌜ ((v : Value) → Means (now (s .entry)) v → Holds (now (s .entry)) r (arrayOf v)) ⌝ }
+    ensures any { λ r. ⌜ r ≡ listAt 42 (now (s .entry)) ⌝ }
 {
     list(s, b'*')
 }
 
 // The elements of a push.
 pub fn push(s: &[u8]) -> Elements
-    ensures { λ r. ⌜ ((v : Value) → Means (now (s .entry)) v → Holds (now (s .entry)) r (pushOf v)) ⌝ }
+    ensures value { λ r. ⌜ ((v : Value) → Means (now (s .entry)) v → Holds (now (s .entry)) r (pushOf v)) ⌝ }
+    ensures any { λ r. ⌜ r ≡ listAt 62 (now (s .entry)) ⌝ }
 {
     list(s, b'>')
 }
@@ -185,7 +195,8 @@ pub fn push(s: &[u8]) -> Elements
 // The element at which the cursor stands, a part of the slice.
 pub fn element(s: &[u8], c: Cursor) -> &[u8]
     requires { ⌜ Inside (now s) c ⌝ }
-    ensures { λ r. ⌜ ((v : Value) (vs : Values) → Stands (now (s .entry)) c (more v vs) → Means (now r) v) ⌝ }
+    ensures value { λ r. ⌜ ((v : Value) (vs : Values) → Stands (now (s .entry)) c (more v vs) → Means (now r) v) ⌝ }
+    ensures any { λ r. ⌜ now r ≡ part (now (s .entry)) (c .at) (c .end - c .at) ⌝ }
 {
     let a = c.at;
     let e = c.end;
@@ -195,7 +206,8 @@ pub fn element(s: &[u8], c: Cursor) -> &[u8]
 // The cursor at the next element.
 pub fn next(s: &[u8], c: Cursor) -> Cursor
     requires { ⌜ 0 < c .left ⌝ }
-    ensures { λ r. ⌜ ((v : Value) (vs : Values) → Stands (now (s .entry)) c (more v vs) → Stands (now (s .entry)) r vs) ⌝ }
+    ensures value { λ r. ⌜ ((v : Value) (vs : Values) → Stands (now (s .entry)) c (more v vs) → Stands (now (s .entry)) r vs) ⌝ }
+    ensures any { λ r. ⌜ r ≡ standAt (now (s .entry)) (c .end) (c .left - 1) ⌝ }
 {
     let at = c.end;
     let n = c.left;

@@ -15,7 +15,7 @@ same-requires : tie.Need-same-requires
 same-requires c κs = search needs
 
 returns : tie.Need-returns
-returns c = λ v m. c .same .ensures ∙ invalidate-law v _ (c .before .before .blob .ensures v m)
+returns c = λ v m. c .same .ensures ∙ invalidate-law v _ (c .before .before .blob .ensures .0 v m)
 
 pub is-invalidate-spec : {M : Type 1} → statement M
 is-invalidate-spec = tie.close (tie.spec blob-requires slice-aggregate-same same-requires returns)

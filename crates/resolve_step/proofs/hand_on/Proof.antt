@@ -14,7 +14,7 @@ with-reply-requires : tie.Need-with-reply-requires
 with-reply-requires c κs = search needs
 
 returns-2 : tie.Need-returns-2
-returns-2 c = λ p es rs b l. arms.hand-one p _ b _ _ _ es rs l (c .before .before .if1 .left) (c .before .next .ensures) (c .with-reply .ensures)
+returns-2 c = λ p es rs b l. arms.hand-one p _ b _ _ _ es rs l (c .before .before .if1 .left) (c .before .next .ensures .0) (c .with-reply .ensures)
 
 pub hand-on-spec : {M : Type 1} → statement M
 hand-on-spec = tie.close (tie.spec returns next-requires with-reply-requires returns-2)

@@ -38,7 +38,7 @@ fetched-requires c κs = let q = arms.element-inside _ _ (c .before .before .bef
 
 returns-3 : tie.Need-returns-3
 unfolding part
-returns-3 c = λ p w es rs b u l. arms.waiting-both p _ b _ _ _ _ _ _ w es rs u l (c .before .before .before .before .before .before .before .before .if1 .left) (c .before .before .before .before .before .before .if2 .left) (c .before .before .before .before .next .ensures) (c .before .before .before .next2 .ensures) (c .fetched .ensures)
+returns-3 c = λ p w es rs b u l. arms.waiting-both p _ b _ _ _ _ _ _ w es rs u l (c .before .before .before .before .before .before .before .before .if1 .left) (c .before .before .before .before .before .before .if2 .left) (c .before .before .before .before .next .ensures .0) (c .before .before .before .next2 .ensures .0) (c .fetched .ensures)
 
 pub waiting-spec : {M : Type 1} → statement M
 waiting-spec =

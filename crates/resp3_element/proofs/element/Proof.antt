@@ -1,4 +1,6 @@
 -- `resp3_element::element` meets its contract. Assumes nothing.
+use mathlib.Core.Path.{refl}
+use Rattle.buffer.specs.Part.{part}
 use borrow.Author.Needs.{needs}
 use Rattle.resp3_element.specs.CursorLaw as law
 use Rattle.resp3_element.proofs.element.Statement.{statement}
@@ -14,7 +16,8 @@ part-result-end : tie.Need-part-result-end
 part-result-end c = search needs
 
 returns : tie.Need-returns
-returns c = (λ v vs w. law.element-law _ _ v vs w)
+unfolding part
+returns c = (λ v vs w. law.element-law _ _ v vs w, refl)
 
 pub element-spec : {M : Type 1} → statement M
 element-spec = tie.close (tie.spec sub-result part-result-start part-result-end returns)

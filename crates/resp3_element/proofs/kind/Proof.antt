@@ -13,7 +13,9 @@ kind-of-requires : tie.Need-kind-of-requires
 kind-of-requires c κs = search needs
 
 returns : tie.Need-returns
-returns c = (λ v m. c .kind-of .ensures ∙ ap kindOf (c .before .first-byte .ensures) ∙ law.kind-law _ v m)
+returns c =
+    let e = c .kind-of .ensures ∙ ap kindOf (c .before .first-byte .ensures) in
+    (λ v m. e ∙ law.kind-law _ v m, e)
 
 pub kind-spec : {M : Type 1} → statement M
 kind-spec = tie.close (tie.spec first-byte-requires kind-of-requires returns)

@@ -11,7 +11,7 @@ stand-requires : tie.Need-stand-requires
 stand-requires c κs = search needs
 
 returns : tie.Need-returns
-returns c = (λ v vs w. rw (c .stand .ensures) (law.next-law _ _ v vs w))
+returns c = (λ v vs w. rw (c .stand .ensures) (law.next-law _ _ v vs w), c .stand .ensures)
 
 pub next-spec : {M : Type 1} → statement M
 next-spec = tie.close (tie.spec sub-stand stand-requires returns)

@@ -9,7 +9,7 @@ integer-at-requires : tie.Need-integer-at-requires
 integer-at-requires c κs = search needs
 
 returns : tie.Need-returns
-returns c = (λ v m. c .integer-at .ensures ∙ law.integer-law _ v m)
+returns c = (λ v m. c .integer-at .ensures ∙ law.integer-law _ v m, c .integer-at .ensures)
 
 pub number-spec : {M : Type 1} → statement M
 number-spec = tie.close (tie.spec integer-at-requires returns)

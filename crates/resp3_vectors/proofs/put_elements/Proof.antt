@@ -23,10 +23,10 @@ next-requires : tie.Need-next-requires Inv-loop μ-loop
 next-requires c κs = c .before .before .if1 .taken
 
 loop-less : tie.Need-loop-less Inv-loop μ-loop
-loop-less c = further _ _ _ (c .before .before .before .before .before .loop .inv) (c .before .before .before .if1 .taken) (c .next .ensures) .less
+loop-less c = further _ _ _ (c .before .before .before .before .before .loop .inv) (c .before .before .before .if1 .taken) (c .next .ensures .0) .less
 
 loop-again : tie.Need-loop-again Inv-loop μ-loop
-loop-again c = further _ _ _ (c .before .before .before .before .before .loop .inv) (c .before .before .before .if1 .taken) (c .next .ensures) .at
+loop-again c = further _ _ _ (c .before .before .before .before .before .loop .inv) (c .before .before .before .if1 .taken) (c .next .ensures .0) .at
 
 returns : tie.Need-returns Inv-loop μ-loop
 returns c = search needs
