@@ -13,7 +13,7 @@ use Rattle.single_calls.specs.declared.Found.the-variants.{Hit, Miss, Denied}
 use Rattle.single_calls.specs.declared.LookedUp.{LookedUp}
 use Rattle.single_calls.specs.declared.Invalidated.{Invalidated}
 use Rattle.single_calls.specs.Single.{Return}
-use Rattle.single_calls.specs.Answers.{countsOf, holding, foundNumber, foundValue, FoundIn, LookupLeft, InvalidationLeft}
+use Rattle.single_calls.specs.Answers.{countsOf, holding, foundNumber, foundValue, foundPlace, FoundIn, LookupLeft, InvalidationLeft}
 use Rattle.cache_manager.specs.declared.CachedPipeline.{CachedPipeline}
 use Rattle.cache_manager.specs.Pipeline.{Left, Leaves}
 use Rattle.caching.specs.Exported.{statisticsIn, countsIn, flagOf, bytesOf, lookupReturn, startOf, servedBytes}
@@ -46,6 +46,12 @@ within-arena s (Hit from to) w =
 within-arena s Miss w = (omega arith, unfold part in refl)
 within-arena s (Denied n) w = (omega arith, unfold part in refl)
 
+-- it begins at the answer's place
+pub start-of : (f : Found) → startOf f ≡ foundPlace f
+start-of (Hit from to) = refl
+start-of Miss = refl
+start-of (Denied n) = refl
+
 -- so are the bytes x that it is handed out as, of an arena that kept its length
 pub part-there : (s u x : Bytes) (f : Found) → x ≡ servedBytes u f → length u ≡ length s → FoundIn (length u) f
     → (startOf f + length x ≤ length s) × (x ≡ part u (startOf f) (length x))
@@ -55,11 +61,17 @@ part-there s u x f e n w =
     let a = i .0 in
     (omega arith, e ∙ i .1 ∙ ap (part u (startOf f)) (sym m))
 
+-- the same told of a place j that is where it begins, y being x bytes behind it
+pub part-at : (i j x y n : ℕ) (u bs : Bytes) → i ≡ j → y ≡ i + x → i + length bs ≤ n → bs ≡ part u i (length bs)
+    → (y ≡ j + x) × (j + length bs ≤ n) × (bs ≡ part u j (length bs))
+part-at i j x y n u bs e a b c = subst (λ (k : ℕ). (y ≡ k + x) × (k + length bs ≤ n) × (bs ≡ part u k (length bs))) e (a, b, c)
+
 -- ---- the counts given by value are those of the record
 
 module _ (call : Held → Return) (s u : Bytes) (l : List ℕ) (was : Statistics) (e : was ≡ statisticsIn l) (next : ℕ) where
-  pub lookup-as : (r : LookedUp) → LookupLeft (call (holding s (countsOf was) next)) u r → LookupLeft (call (holding s (countsIn l) next)) u r
-  lookup-as r w = subst (λ (z : Statistics). LookupLeft (call (holding s (countsOf z) next)) u r) e w
+  pub lookup-as : {at : ℕ} (r : LookedUp) → LookupLeft (call (holding s (countsOf was) next)) at u r
+      → LookupLeft (call (holding s (countsIn l) next)) at u r
+  lookup-as {at} r w = subst (λ (z : Statistics). LookupLeft (call (holding s (countsOf z) next)) at u r) e w
 
   pub invalidation-as : (r : Invalidated) → InvalidationLeft (call (holding s (countsOf was) next)) u r → InvalidationLeft (call (holding s (countsIn l) next)) u r
   invalidation-as r w = subst (λ (z : Statistics). InvalidationLeft (call (holding s (countsOf z) next)) u r) e w

@@ -1,4 +1,5 @@
 pub mod Exported
+pub mod Place
 pub mod Pushed
 pub mod Resolved
 pub mod Planned

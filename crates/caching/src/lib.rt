@@ -20,6 +20,7 @@ ghost use Rattle.statistics.specs.Counts.{reading};
 ghost use Rattle.book.specs.Book.{Counts};
 ghost use Rattle.single_calls.specs.Setup.{setUp, freshArena};
 ghost use Rattle.single_calls.specs.Answers.{countsOf, answerNumber, FoundIn};
+ghost use Rattle.caching.specs.Place.{placeBy};
 ghost use Rattle.caching.specs.Exported.{setupReturn, statisticsIn, countsList, flagOf, bytesOf, lookupReturn, startOf, servedBytes, lookupBy, storeBy, invalidateBy};
 
 // What setup returns: 01's number of the cause that refuses it, or 0; the epoch taken; the next epoch number.
@@ -183,7 +184,7 @@ pub extern "C" fn redis_cache_lookup<'a>(
 ) -> RedisCacheLookup
     ensures answer { λ r. ⌜ ((next : ℕ) → (r .cause ≡ lookupBy size mode ttl clock epoch (now (key .entry)) (now (command .entry)) (now (arena .entry)) (now (counts .entry)) next .cause) × (r .hit ≡ flagOf (lookupBy size mode ttl clock epoch (now (key .entry)) (now (command .entry)) (now (arena .entry)) (now (counts .entry)) next .value))) ⌝ }
     ensures served { λ _. ⌜ ((next : ℕ) → now (now (value .exit)) ≡ bytesOf (lookupBy size mode ttl clock epoch (now (key .entry)) (now (command .entry)) (now (arena .entry)) (now (counts .entry)) next .value)) ⌝ }
-    ensures is_part { λ _. ⌜ ((from : ℕ) × (now (value .exit) .ptr .0 ≡ arena .entry .ptr .0) × (now (value .exit) .ptr .1 ≡ from + arena .entry .ptr .1) × (from + length (now (now (value .exit))) ≤ length (now (arena .entry))) × (now (now (value .exit)) ≡ part (now (now (whole .exit))) from (length (now (now (value .exit)))))) ⌝ }
+    ensures is_part { λ _. ⌜ ((lent : Counts) (next : ℕ) → (now (value .exit) .ptr .0 ≡ arena .entry .ptr .0) × (now (value .exit) .ptr .1 ≡ placeBy size mode ttl clock epoch (now (key .entry)) (now (command .entry)) (now (arena .entry)) lent next + arena .entry .ptr .1) × (placeBy size mode ttl clock epoch (now (key .entry)) (now (command .entry)) (now (arena .entry)) lent next + length (now (now (value .exit))) ≤ length (now (arena .entry))) × (now (now (value .exit)) ≡ part (now (now (whole .exit))) (placeBy size mode ttl clock epoch (now (key .entry)) (now (command .entry)) (now (arena .entry)) lent next) (length (now (now (value .exit)))))) ⌝ }
     ensures is_arena { λ _. ⌜ now (whole .exit) .ptr ≡ arena .entry .ptr ⌝ }
     ensures bytes { λ _. ⌜ ((next : ℕ) → now (now (whole .exit)) ≡ lookupBy size mode ttl clock epoch (now (key .entry)) (now (command .entry)) (now (arena .entry)) (now (counts .entry)) next .held .arena) ⌝ }
     ensures counts { λ _. ⌜ ((next : ℕ) → now (counts .exit) ≡ countsList (lookupBy size mode ttl clock epoch (now (key .entry)) (now (command .entry)) (now (arena .entry)) (now (counts .entry)) next .held .counts)) ⌝ }

@@ -2,12 +2,14 @@
 use mathlib.Core.Path.{refl, ap, _∙_}
 use Prim.Native.Nat.{ℕ}
 use denote.Ref.{now}
-use Rattle.book.specs.Book.{lookup}
+use Rattle.book.specs.Book.{Counts, lookup}
 use Rattle.single_calls.specs.Single.{singleCall}
-use Rattle.single_calls.specs.Answers.{holding, LookupLeft}
+use Rattle.single_calls.specs.Place.{lookupPlace}
+use Rattle.single_calls.specs.PlaceLaws.{place-alike}
+use Rattle.single_calls.specs.Answers.{countsOf, holding, LookupLeft}
 use Rattle.caching.specs.declared.RedisCacheLookup.{RedisCacheLookup}
 use Rattle.caching.specs.Exported.{countsIn, countsList, flagOf, bytesOf, startOf}
-use Rattle.caching.proofs.Parts.{cause-of, flag-of, bytes-of, part-there, lookup-as}
+use Rattle.caching.proofs.Parts.{cause-of, flag-of, bytes-of, start-of, part-there, part-at, lookup-as}
 use borrow.Author.Needs.{needs}
 use Rattle.caching.proofs.redis_cache_lookup.Statement.{statement}
 use Rattle.caching.proofs.redis_cache_lookup.Tie as tie
@@ -45,9 +47,11 @@ returns c =
     let a = c .before .before .before .before .before .before .before .before .before .before .before .before .before .before .args in
     let u = c .before .before .before .before .before .before .before .lookup .last .0 in
     let f = c .before .before .before .before .before .before .before .lookup .result .found in
+    let was : Counts = countsOf (c .before .before .before .before .before .before .before .before .before .counts-in .result) in
     let l : (next : ℕ)
     → LookupLeft
     (singleCall (a .size) (a .mode) (a .ttl) (lookup (now (a .key)) (now (a .command)) (a .clock) (a .epoch)) (holding (now (a .arena)) (countsIn (now (a .counts))) next))
+    (lookupPlace (a .size) (a .mode) (a .ttl) (now (a .key)) (now (a .command)) (a .clock) (a .epoch) (holding (now (a .arena)) was next))
     u (c .before .before .before .before .before .before .before .lookup .result) =
     λ next. lookup-as (singleCall (a .size) (a .mode) (a .ttl) (lookup (now (a .key)) (now (a .command)) (a .clock) (a .epoch))) _ _ (now (a .counts)) _ (c .before .before .before .before .before .before .before .before .before .counts-in .ensures) next _ (c .before .before .before .before .before .before .before .lookup .ensures next) in
     let r = c .lookup-return .ensures in
@@ -57,7 +61,11 @@ returns c =
       (
         λ next. v .0 ∙ bytes-of u f ∙ ap bytesOf (l next .value),
         (
-          (startOf f, v .1 .0, v .1 .1, w .0, w .1),
+          λ lent next.
+              let m = part-at (startOf f) _ _ _ _ u _
+              (start-of f ∙ l next .place ∙ place-alike (a .size) (a .mode) (a .ttl) (now (a .key)) (now (a .command)) (a .clock) (a .epoch) (now (a .arena)) was lent next next)
+              (v .1 .1) (w .0) (w .1) in
+              (v .1 .0, m .0, m .1, m .2),
           (refl, (λ next. l next .arena, λ next. c .before .before .before .put-counts .ensures ∙ ap countsList (l next .counts))),
         ),
       ),
