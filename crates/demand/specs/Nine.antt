@@ -40,7 +40,7 @@ use Rattle.single_calls.specs.AsCall.{callOf}
 use Rattle.push.specs.Push as pushes
 use Rattle.cache_manager.specs.Pipeline as plannings
 use Rattle.caching_cmd.specs.Call as resolvings
-use Rattle.demand.specs.Call.{RealCall, planning, resolving, push, lookup, store, invalidate, newEpoch, Given, Stepped, causeOf, setupBy, step, setupWith, bookCall, bookCalls}
+use Rattle.demand.specs.Call.{RealCall, planning, resolving, push, lookup, store, invalidate, newEpoch, Given, Stepped, causeOf, setupBy, step, setupWith, bookCall, bookCalls, respond}
 use Rattle.demand.specs.Words.{modeIn, LentArena}
 use Rattle.demand.specs.Demand.{LeftBy, CauseNine}
 use Rattle.demand.specs.Bridge.{is-fine, is-sized}
@@ -78,7 +78,7 @@ module _ (size : ℕ) (h : Held) where
   not-nine c a f rows q e =
       let im : Image isValue p (h .arena) rows = decode-exact isValue p (h .arena) rows q in
       let is = return-is size n (is-sized size n (modeIn c) 0 f) (bookOf rows h) (im .formed) c a in
-      never-nine size n c (replyTo p (bookCall size n c) (bookOf rows h))
+      never-nine size n c (respond p size n c (bookOf rows h))
       (sym (ap (λ (x : Held). causeOf (step size c x .return)) (held im) ∙ ap causeOf is) ∙ e)
     where
       held : Image isValue p (h .arena) rows → h ≡ lend p n (bookOf rows h)

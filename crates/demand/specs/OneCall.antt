@@ -13,7 +13,7 @@ use Rattle.book.specs.Counts.{Counted}
 use Rattle.arena.specs.Tests.{WellFormed}
 use Rattle.arena.specs.Image.{Sized}
 use Rattle.arena.specs.Sequence.{Held, lend}
-use Rattle.demand.specs.Call.{RealCall, planning, resolving, push, lookup, store, invalidate, newEpoch, Return, Stepped, withArena, withNext, step, setupWith, bookCall, returnFor}
+use Rattle.demand.specs.Call.{RealCall, planning, resolving, push, lookup, store, invalidate, newEpoch, Return, Stepped, withArena, withNext, step, setupWith, bookCall, respond, returnFor}
 use Rattle.demand.specs.Words.{modeIn, LentArena}
 use Rattle.demand.specs.Bridge.{lookup-step, invalidate-step, store-step, epoch-step}
 use Rattle.demand.specs.PushBridge.{push-step}
@@ -26,7 +26,7 @@ use Rattle.demand.specs.Free.{told-free, next-stays, store-uncounted, re
 abbrev pub booked : ℕ → ℕ → RealCall → Book → Stepped
 booked size n c bk =
     record {
-      return = returnFor size n c (replyTo (setupWith size n) (bookCall size n c) bk);
+      return = returnFor size n c (respond (setupWith size n) size n c bk);
       held = lend (setupWith size n) n (afterCall (setupWith size n) (bookCall size n c) bk);
     }
 
@@ -37,7 +37,7 @@ module _ (size n : ℕ) (z : Sized (setupWith size n) n) (bk : Book) (w : WellFo
 
   -- the book's return, and what is held after the book's call
   abbrev said : RealCall → Return
-  said c = returnFor size n c (replyTo p (bookCall size n c) bk)
+  said c = returnFor size n c (respond p size n c bk)
 
   abbrev left : RealCall → Held
   left c = lend p n (afterCall p (bookCall size n c) bk)

@@ -37,9 +37,9 @@ use Rattle.single_calls.specs.AsCall as singles
 use Rattle.caching_cmd.specs.Call.{fits, toldTo, refusedOf}
 use Rattle.caching_cmd.specs.Told.{toldBy}
 use Rattle.demand.specs.Call as real
-use Rattle.demand.specs.Call.{RealCall, Reply, setupBy, ifFine, bookCall, bookCalls, returnFor, planReply, recordReply, planningReturn, resultReply, resolvedReply, planLent, resolvingReturn}
+use Rattle.demand.specs.Call.{RealCall, Reply, setupBy, ifFine, bookCall, bookCalls, respond, returnFor, planReply, recordReply, planningReturn, resultReply, resolvedReply, planLent, resolvingReturn}
 use Rattle.demand.specs.Words.{reportedBy, lackingIn}
-use Rattle.demand.specs.Demand.{setup, told, CallIn, returned, bookBefore, reply}
+use Rattle.demand.specs.Demand.{setup, told, CallIn, returned, bookBefore, response}
 use Rattle.demand.specs.Laws.{setup-proper}
 use Rattle.demand.specs.BookCalls.{of-single, of-push, of-planning, of-fine}
 
@@ -127,7 +127,7 @@ module _ (size n : ℕ) (p : Setup) (o : Proper p) (lent : Counts) (before : Lis
     resolving-lacks plan (Fine g) = plan-lacks g (decodePlan plan)
 
   -- every call
-  pub reported-for : (c : RealCall) → reportedBy (returnFor size n c (replyTo p (bookCall size n c) bk)) ≡ lackingIn p (bookCall size n c) bk
+  pub reported-for : (c : RealCall) → reportedBy (returnFor size n c (respond p size n c bk)) ≡ lackingIn p (bookCall size n c) bk
   unfolding returnFor bookCall
   reported-for (real.planning m d t e bytes plan send) =
       planning-none t bytes plan send (checked size m d n) _
@@ -144,7 +144,7 @@ module _ (size n : ℕ) (p : Setup) (o : Proper p) (lent : Counts) (before : Lis
 -- the clause
 module _ (size mode ttl : ℕ) (s : Bytes) (lent : Counts) (set-up : setupBy size mode ttl s .cause ≡ noCause) (cs : List RealCall)
     (a : CallIn size mode ttl s lent cs)
-    (is : returned size mode ttl s lent a ≡ returnFor size (length s) (a .call) (reply size mode ttl s lent a)) where
+    (is : returned size mode ttl s lent a ≡ returnFor size (length s) (a .call) (response size mode ttl s lent a)) where
   pub reported-field : reportedBy (returned size mode ttl s lent a)
       ≡ lackingIn (setup size mode ttl s lent) (told size mode ttl s lent (a .call)) (bookBefore size mode ttl s lent a)
   reported-field =

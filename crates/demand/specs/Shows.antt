@@ -35,9 +35,9 @@ use Rattle.single_calls.specs.AsCall as singles
 use Rattle.cache_manager.specs.Call as told
 use Rattle.caching.specs.Exported.{flagOf, bytesOf}
 use Rattle.demand.specs.Call as real
-use Rattle.demand.specs.Call.{RealCall, Return, Reply, causeOf, ifFine, bookCall, returnFor, planningReturn, resultReply, resolvedReply, planLent, resolvingReturn, singleNumber, singleValue}
+use Rattle.demand.specs.Call.{RealCall, Return, Reply, causeOf, ifFine, bookCall, respond, returnFor, planningReturn, resultReply, resolvedReply, planLent, resolvingReturn, singleNumber, singleValue}
 use Rattle.demand.specs.Words.{gotsOf, lookupsIn}
-use Rattle.demand.specs.Demand.{number, reply}
+use Rattle.demand.specs.Demand.{number, response}
 use Rattle.demand.specs.BookCalls.{of-single, of-push, of-resolving, of-fine}
 use Rattle.demand.specs.Places.{gotBy, plan-places, dry-places, dry-count}
 use Rattle.demand.specs.Plannings.{ws, said, Passing, passing, gots-places}
@@ -68,36 +68,37 @@ module _ (p : Setup) (bk : Book) where
   planning-shows t e bytes d f w (Fine g) k = passing-shows g t e bytes d f w (passing g t e bytes d f p bk k)
 
   -- a single lookup
-  abbrev lookReturn : CheckedConfig → Keyed → Reply → Return
-  lookReturn x q o = real.lookedUp (record { cause = singleNumber x q o; hit = flagOf (singleValue x o) }) (bytesOf (singleValue x o))
+  abbrev lookReturn : ℕ → CheckedConfig → Keyed → Reply → Return
+  lookReturn at x q o =
+      real.lookedUp (record { cause = singleNumber x q o; hit = flagOf (singleValue x o) }) (servedAt (singleValue x o) at) (bytesOf (singleValue x o))
 
   -- a number of 0 goes with an answer that is shown
-  answer-shown : (a : Answer) → one.numberOf a ≡ noCause
-      → gotsOf (real.lookedUp (record { cause = one.numberOf a; hit = flagOf (one.servedBy a) }) (bytesOf (one.servedBy a))) ≡ gotBy a ∷ []
+  answer-shown : (at : ℕ) (a : Answer) → one.numberOf a ≡ noCause
+      → gotsOf (real.lookedUp (record { cause = one.numberOf a; hit = flagOf (one.servedBy a) }) at (bytesOf (one.servedBy a))) ≡ gotBy a ∷ []
   unfolding gotsOf gotBy one.numberOf one.servedBy
-  answer-shown (book.hit v) k = refl
-  answer-shown book.miss k = refl
-  answer-shown book.stored k = refl
-  answer-shown book.noSpace k = absurd (let z : _≡_ {A = ℕ} 11 0 = k in omega arith)
-  answer-shown book.invalidated k = refl
-  answer-shown (book.number n) k = refl
+  answer-shown at (book.hit v) k = refl
+  answer-shown at book.miss k = refl
+  answer-shown at book.stored k = refl
+  answer-shown at book.noSpace k = absurd (let z : _≡_ {A = ℕ} 11 0 = k in omega arith)
+  answer-shown at book.invalidated k = refl
+  answer-shown at (book.number n) k = refl
 
-  module _ (k c : Bytes) (t e : ℕ) where
+  module _ (at : ℕ) (k c : Bytes) (t e : ℕ) where
     abbrev q : Keyed
     q = book.lookup k c t e
 
     -- a lookup that passes shows its answer, and one that cause 3 refuses does not pass
-    single-shows : (g : Settings) → causeOf (lookReturn (Fine g) q (replyTo p (calls.single q) bk)) ≡ noCause
-        → Shows p bk (calls.single q) (lookReturn (Fine g) q (replyTo p (calls.single q) bk))
+    single-shows : (g : Settings) → causeOf (lookReturn at (Fine g) q (replyTo p (calls.single q) bk)) ≡ noCause
+        → Shows p bk (calls.single q) (lookReturn at (Fine g) q (replyTo p (calls.single q) bk))
     unfolding causeOf singleNumber singleValue singles.outcomeNumber singles.outcomeValue outcomeOf call-defs ons answers lookupsIn
-    single-shows g z = asked (answerTo p (on q) bk ∷ []) refl refl (answer-shown (answerTo p (on q) bk) z)
+    single-shows g z = asked (answerTo p (on q) bk ∷ []) refl refl (answer-shown _ (answerTo p (on q) bk) z)
 
-    denied-shows : (g : Settings) → one.overlong q ≡ true → causeOf (lookReturn (Fine g) q (replyTo p calls.refused bk)) ≡ noCause → ⊥
+    denied-shows : (g : Settings) → one.overlong q ≡ true → causeOf (lookReturn at (Fine g) q (replyTo p calls.refused bk)) ≡ noCause → ⊥
     unfolding causeOf singleNumber singles.outcomeNumber outcomeOf call-defs
     denied-shows g u z = let y : _≡_ {A = ℕ} 3 0 = rw u at z in omega arith
 
-    lookup-shows : (x : CheckedConfig) → causeOf (lookReturn x q (replyTo p (ifFine x (λ g. singles.callOf q)) bk)) ≡ noCause
-        → Shows p bk (ifFine x (λ g. singles.callOf q)) (lookReturn x q (replyTo p (ifFine x (λ g. singles.callOf q)) bk))
+    lookup-shows : (x : CheckedConfig) → causeOf (lookReturn at x q (replyTo p (ifFine x (λ g. singles.callOf q)) bk)) ≡ noCause
+        → Shows p bk (ifFine x (λ g. singles.callOf q)) (lookReturn at x q (replyTo p (ifFine x (λ g. singles.callOf q)) bk))
     unfolding singles.callOf one.wrongBytes
     lookup-shows BadConfig z = absurd (let y : _≡_ {A = ℕ} 1 0 = unfold causeOf singleNumber in z in omega arith)
     lookup-shows (Fine g) z =
@@ -169,8 +170,8 @@ module _ (t : ℕ) (replies answer : Bytes) where
 -- ---- every call that passes
 
 pub shows : (size n : ℕ) (p : Setup) (bk : Book) → WellFormed isValue p (bk .rows) → (c : RealCall)
-    → causeOf (returnFor size n c (replyTo p (bookCall size n c) bk)) ≡ noCause
-    → Shows p bk (bookCall size n c) (returnFor size n c (replyTo p (bookCall size n c) bk))
+    → causeOf (returnFor size n c (respond p size n c bk)) ≡ noCause
+    → Shows p bk (bookCall size n c) (returnFor size n c (respond p size n c bk))
 unfolding returnFor bookCall
 shows size n p bk w (real.planning m d t e bytes plan send) k = planning-shows p bk t e bytes plan send w (checked size m d n) k
 shows size n p bk w (real.resolving m d t e plan replies answer) k =
@@ -180,7 +181,7 @@ shows size n p bk w (real.resolving m d t e plan replies answer) k =
     (resolving-silent t replies answer plan (checked size m d n) _)
 shows size n p bk w (real.push m d bytes) k =
     unasked (of-fine Quiet (checked size m d n) _ refused-quiet (λ g. of-push Quiet push-quiet all-quiet bytes refused-quiet)) (unfold gotsOf in refl)
-shows size n p bk w (real.lookup m d t e key command) k = lookup-shows p bk key command t e (checked size m d n) k
+shows size n p bk w (real.lookup m d t e key command) k = lookup-shows p bk _ key command t e (checked size m d n) k
 shows size n p bk w (real.store m d e key command v x) k =
     unasked (of-fine Quiet (checked size m d n) _ refused-quiet (λ g. of-single Quiet _ refused-quiet (store-quiet key command v x e))) (unfold gotsOf in refl)
 shows size n p bk w (real.invalidate m d key) k =

@@ -32,8 +32,8 @@ use Rattle.single_calls.specs.Single.{noCause}
 use Rattle.single_calls.specs.AsCall.{callOf, outcomeNumber, outcomeValue}
 use Rattle.caching.specs.Exported.{flagOf, bytesOf}
 use Rattle.demand.specs.Call as real
-use Rattle.demand.specs.Call.{RealCall, Given, lookedUp, stored, Stepped, causeOf, setupBy, step, bookCall, returnFor, singleNumber, singleValue}
-use Rattle.demand.specs.Words.{storeNumber}
+use Rattle.demand.specs.Call.{RealCall, Given, lookedUp, stored, Stepped, causeOf, setupBy, step, bookCall, respond, returnFor, singleNumber, singleValue}
+use Rattle.demand.specs.Words.{got, gotsOf, storeNumber}
 use Rattle.demand.specs.Demand.{answer, setup, bookBy, CallIn, returned, bookBefore}
 use Rattle.demand.specs.Bridge.{is-fine}
 use Rattle.demand.specs.ModeRefused.{mode-bad, is-bad}
@@ -75,7 +75,7 @@ module _ (p : Setup) (k c v : Bytes) (x e : ℕ) (bk : Book) where
 
 -- the return of a store, after a setup that cause 1 let through
 store-return : (size n mode m d e : ℕ) (k c v : Bytes) (x : ℕ) (p : Setup) (bk : Book) → refused size mode n ≡ false
-    → returnFor size n (real.store m d e k c v x) (replyTo p (bookCall size n (real.store m d e k c v x)) bk) ≡ stored (storeNumber p m k c v x e bk)
+    → returnFor size n (real.store m d e k c v x) (respond p size n (real.store m d e k c v x) bk) ≡ stored (storeNumber p m k c v x e bk)
 unfolding returnFor bookCall
 store-return size n mode m d e k c v x p bk pass =
     byTest (ltb maxMode m) (λ l. rw (is-bad size m d n (mode-bad size m n (ltb-true maxMode m l))) (unfold singleNumber storeNumber in rw l))
@@ -155,12 +155,12 @@ module _ (p : Setup) (m : ℕ) (k c v : Bytes) (x e : ℕ) (bk : Book) (w : Kept
 -- the return of a lookup that hits
 hit-return : (size n m d t e : ℕ) (k c v : Bytes) (p : Setup) (bk : Book) → refused size m n ≡ false → one.overlong (book.lookup k c t e) ≡ false
     → answerTo p (on (book.lookup k c t e)) bk ≡ book.hit v
-    → returnFor size n (real.lookup m d t e k c) (replyTo p (bookCall size n (real.lookup m d t e k c)) bk) ≡ lookedUp (record { cause = noCause; hit = 1 }) v
-unfolding returnFor bookCall callOf one.wrongBytes
+    → gotsOf (returnFor size n (real.lookup m d t e k c) (respond p size n (real.lookup m d t e k c) bk)) ≡ got v ∷ []
+unfolding gotsOf returnFor bookCall callOf one.wrongBytes
 hit-return size n m d t e k c v p bk f short hits =
     rw (is-fine size n m d f, short)
     (unfold call-defs ons answers singleNumber singleValue outcomeOf outcomeNumber outcomeValue in
-    ap (λ (z : book.Answer). lookedUp (record { cause = one.numberOf z; hit = flagOf (one.servedBy z) }) (bytesOf (one.servedBy z))) hits
+    ap (λ (z : book.Answer). gotsOf (lookedUp (record { cause = one.numberOf z; hit = flagOf (one.servedBy z) }) 0 (bytesOf (one.servedBy z)))) hits
     ∙ (unfold one.numberOf one.servedBy in refl))
 
 -- ---- the clauses
@@ -217,12 +217,12 @@ module _ (size mode ttl : ℕ) (s : Bytes) (lent : Counts) (set-up : setupBy siz
   pub kept-at-once-field : (a : CallIn size mode ttl s lent cs) (m d m′ d′ e t x : ℕ) (k c v : Bytes) (before : List RealCall)
       → a .call ≡ real.lookup m′ d′ t e k c → a .before ≡ before ++ (real.store m d e k c v x ∷ [])
       → answer size mode ttl s lent before (real.store m d e k c v x) ≡ stored noCause → m′ ≤ maxMode → t ≤ x
-      → returned size mode ttl s lent a ≡ lookedUp (record { cause = noCause; hit = 1 }) v
+      → gotsOf (returned size mode ttl s lent a) ≡ got v ∷ []
   kept-at-once-field a m d m′ d′ e t x k c v before call-is before-is zero low l =
       let g : All Given before =
       given-front before (real.store m d e k c v x ∷ []) (subst (All Given) before-is (before-given size mode ttl s lent set-up counted cs given a)) in
-      answers-field size mode ttl s lent set-up counted cs given a
-      ∙ ap (λ (z : RealCall). returnFor size (length s) z (replyTo r (bookCall size (length s) z) (bookBefore size mode ttl s lent a))) call-is
+      ap gotsOf (answers-field size mode ttl s lent set-up counted cs given a)
+      ∙ ap (λ (z : RealCall). gotsOf (returnFor size (length s) z (respond r size (length s) z (bookBefore size mode ttl s lent a)))) call-is
       ∙ hit-return size (length s) m′ d′ t e k c v r (bookBefore size mode ttl s lent a)
       (other-mode size mode (length s) m′ pass (le-ltb maxMode m′ low))
       (lookup-short k c v x e t (was-kept before g m d e x k c v zero .short))

@@ -38,7 +38,7 @@ use Rattle.single_calls.specs.Single.{noCause}
 use Rattle.single_calls.specs.AsCall.{outcomeNumber}
 use Rattle.cache_manager.specs.Pipeline as pipeline
 use Rattle.demand.specs.Call as real
-use Rattle.demand.specs.Call.{RealCall, Given, Return, Reply, Stepped, causeOf, setupBy, afterSetup, step, heldAfter, returns, setupWith, bookCall, returnFor, planReply, recordReply, planningReturn, singleNumber, pushNumber}
+use Rattle.demand.specs.Call.{RealCall, Given, Return, Reply, Stepped, causeOf, setupBy, afterSetup, step, heldAfter, returns, setupWith, bookCall, respond, returnFor, planReply, recordReply, planningReturn, singleNumber, pushNumber}
 use Rattle.demand.specs.Words.{Got, gotsOf, served, unserved, total}
 use Rattle.demand.specs.Demand.{heldBy, answersTo, bookBy}
 use Rattle.demand.specs.Sequences.{given-front}
@@ -56,7 +56,7 @@ unfolding causeOf gotsOf
 refused-silent (real.planned r plan send) n = rw (ne-eqb (r .cause) noCause n)
 refused-silent (real.resolved r answer) n = refl
 refused-silent (real.pushed m) n = refl
-refused-silent (real.lookedUp r value) n = rw (ne-eqb (r .cause) noCause n)
+refused-silent (real.lookedUp r place value) n = rw (ne-eqb (r .cause) noCause n)
 refused-silent (real.stored m) n = refl
 refused-silent (real.invalidated m) n = refl
 refused-silent (real.epochTaken m) n = refl
@@ -125,7 +125,7 @@ module _ (f : Counts → ℕ) (count : List Got → ℕ) (g : Answer → ℕ) (g
     p = setupWith size n
 
     abbrev said : RealCall → Return
-    said c = returnFor size n c (replyTo p (bookCall size n c) bk)
+    said c = returnFor size n c (respond p size n c bk)
 
     -- a call of the book adds what it answers
     call-tallied : (c : Call) → f (afterCall p c bk .counts) ≡ wrap (f (bk .counts) + tallyReply g (replyTo p c bk))

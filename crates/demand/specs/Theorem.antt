@@ -12,7 +12,7 @@ use Rattle.book.specs.Counts.{Counted}
 use Rattle.arena.specs.Tests.{WellFormed}
 use Rattle.single_calls.specs.Single.{noCause}
 use Rattle.demand.specs.Call.{RealCall, Given, setupBy, returnFor}
-use Rattle.demand.specs.Demand.{setup, CallIn, returned, reply, bookBefore, Demand, DemandThree, CauseNine}
+use Rattle.demand.specs.Demand.{setup, CallIn, returned, response, bookBefore, Demand, DemandThree, CauseNine}
 use Rattle.demand.specs.Laws.{in-turn-field, happened-field, sound-field, ends-field}
 use Rattle.demand.specs.InTurn.{rows-formed, before-given, answers-field, image-field, rows-field, counts-field, next-field}
 use Rattle.demand.specs.Refusals.{never-nine-field, only-mode-field}
@@ -34,7 +34,7 @@ module _ (size mode ttl : ℕ) (s : Bytes) (lent : Counts) (set-up : setupBy siz
   rows-before : (a : CallIn size mode ttl s lent cs) → WellFormed isValue (setup size mode ttl s lent) (bookBefore size mode ttl s lent a .rows)
   rows-before a = rows-formed size mode ttl s lent set-up counted (a .before) (before-given size mode ttl s lent set-up counted cs given a)
 
-  is-reply : (a : CallIn size mode ttl s lent cs) → returned size mode ttl s lent a ≡ returnFor size (length s) (a .call) (reply size mode ttl s lent a)
+  is-reply : (a : CallIn size mode ttl s lent cs) → returned size mode ttl s lent a ≡ returnFor size (length s) (a .call) (response size mode ttl s lent a)
   is-reply a = answers-field size mode ttl s lent set-up counted cs given a
 
   -- the clauses, in the order of the record
