@@ -12,14 +12,14 @@ use Rattle.book.specs.Book.{Counts}
 use Rattle.arena.specs.Sequence.{Held}
 use Rattle.single_calls.specs.Single.{noCause}
 use Rattle.demand.specs.Call as real
-use Rattle.demand.specs.Call.{RealCall, epochTaken, setupBy, afterSetup, epochBy, step, heldAfter}
+use Rattle.demand.specs.Call.{RealCall, epochTaken, setupBy, afterSetup, step, heldAfter}
 use Rattle.demand.specs.Words.{epochsIn}
 use Rattle.demand.specs.Demand.{heldBy, CallIn, returned}
 use Rattle.demand.specs.Laws.{fine}
 
 -- each new epoch adds one to the next number, wrapping, and no other call changes it
 next-after : (size : ℕ) (cs : List RealCall) (h : Held) (n : ℕ) → h .next ≡ wrap n → heldAfter size cs h .next ≡ wrap (n + epochsIn cs)
-unfolding heldAfter step epochBy epochsIn
+unfolding heldAfter step epochsIn
 next-after size [] h n q = q ∙ ap wrap (omega arith)
 next-after size (real.planning m d t e bytes plan send ∷ cs) h n q = next-after size cs (step size (real.planning m d t e bytes plan send) h .held) n q
 next-after size (real.resolving m d t e plan replies answer ∷ cs) h n q =
@@ -38,7 +38,7 @@ module _ (size mode ttl : ℕ) (s : Bytes) (lent : Counts) (set-up : setupBy siz
 
   -- what a new epoch after some calls answers
   taken : (before : List RealCall) → step size real.newEpoch (heldBy size mode ttl s lent before) .return ≡ epochTaken (wrap (1 + epochsIn before))
-  unfolding step epochBy
+  unfolding step
   taken before = ap epochTaken (next-after size before (afterSetup size mode ttl s lent) 1 next-one)
 
   -- the clause

@@ -40,7 +40,7 @@ use Rattle.single_calls.specs.AsCall.{callOf}
 use Rattle.push.specs.Push as pushes
 use Rattle.cache_manager.specs.Pipeline as plannings
 use Rattle.caching_cmd.specs.Call as resolvings
-use Rattle.demand.specs.Call.{RealCall, planning, resolving, push, lookup, store, invalidate, newEpoch, Given, Stepped, causeOf, setupBy, step, setupWith, bookCall, bookCalls, respond}
+use Rattle.demand.specs.Call.{RealCall, planning, resolving, push, lookup, store, invalidate, newEpoch, Given, Stepped, causeOf, setupBy, step, setupWith, bookCall, bookCalls, Response, respond}
 use Rattle.demand.specs.Words.{modeIn, LentArena}
 use Rattle.demand.specs.Demand.{LeftBy, CauseNine}
 use Rattle.demand.specs.Bridge.{is-fine, is-sized}
@@ -88,8 +88,12 @@ module _ (size : ℕ) (h : Held) where
   passes : (c : RealCall) → LentArena c → causeOf (step size c h .return) ≢ badConfig → refused size (modeIn c) n ≡ false
   passes c a ne =
       byTest (refused size (modeIn c) n)
-      (λ b. absurd (ne (ap (λ (x : Stepped). causeOf (x .return)) (step-refused size n c h refl a b none) ∙ number-refused size n c a b none)))
+      (λ b. absurd (ne (ap (λ (x : Stepped). causeOf (x .return)) (step-refused size n c h refl a b silent) ∙ number-refused size n c a b silent)))
       (λ f. f)
+    where
+      -- whatever the book would say
+      silent : Response
+      silent = record { reply = none; place = 0 }
 
 -- ---- an image is left by single stores
 

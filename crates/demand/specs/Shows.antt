@@ -32,6 +32,7 @@ use Rattle.resolving.specs.Result.{resultBytes}
 use Rattle.single_calls.specs.Single as one
 use Rattle.single_calls.specs.Single.{noCause}
 use Rattle.single_calls.specs.AsCall as singles
+use Rattle.single_calls.specs.Place.{servedAt}
 use Rattle.cache_manager.specs.Call as told
 use Rattle.caching.specs.Exported.{flagOf, bytesOf}
 use Rattle.demand.specs.Call as real
