@@ -1,0 +1,4 @@
+pub mod Send
+pub mod Walk
+pub mod Laws
+pub mod Cases
