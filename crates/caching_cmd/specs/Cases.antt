@@ -34,7 +34,7 @@ use Rattle.caching_cmd.specs.declared.ResolveAnswer.the-variants.{Answer
 use Rattle.caching_cmd.specs.Call.{ResolveReturn, returning, fits, toldTo, refusedOf, answerOf, bufferAfter, resolvedOn, planned, imaged, configured, resolveCall}
 
 -- one name that opens the whole call
-unfoldable case-defs : Unit {0}
+unfoldable pub case-defs : Unit {0}
 unfolding
     book-defs call-defs ons stores refusals le readLe part put head itemHead encEntry encEntries encItem encItems encShard encShards layout.encode readEntry
     readEntries readItem readItems readShard readArena every distinctKeys distinctCommands mayStore itemFits itemFine rowFine rowsFine isImage decode lend setupOf
