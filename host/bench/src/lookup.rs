@@ -5,7 +5,7 @@ use crate::bytes::all_bits;
 use crate::measure::{Table, bytes, used};
 use calls::{At, Counts, Entry, Item, Setup, Value, resp};
 use model::{config, layout, siphash};
-use redis_cache::{Cache, Looked, MODE_ALL, Now, Settings};
+use redis_cache::lent::{Cache, Looked, MODE_ALL, Now, Settings};
 use reference::Reference;
 use std::hint::black_box;
 
@@ -43,7 +43,7 @@ fn filled(table: &mut Table, length: usize, percent: usize, value: usize) {
         .map(|item| (&item.key[..], &item.entries[0].command[..]))
         .collect();
     let case = format!("{}, {percent}% full, {} keys", bytes(length), names.len());
-    let mut counts = redis_cache::Counts::default();
+    let mut counts = redis_cache::lent::Counts::default();
     let now = Now { clock: 1, epoch: 0 };
     let mut ours = names.iter().cycle();
     let mut look = || {

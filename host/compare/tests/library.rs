@@ -12,7 +12,8 @@ use compare::party::{Library, Party};
 use compare::rng::Rng;
 use model::plan::Plan;
 use model::{Model, config, layout};
-use redis_cache::{Cache, Cause, Counts, Now, Settings, new_epoch};
+use redis_cache::Cause;
+use redis_cache::lent::{Cache, Counts, Now, Settings, new_epoch};
 
 #[test]
 fn setups_at_the_limits() {

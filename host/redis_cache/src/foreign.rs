@@ -8,7 +8,8 @@ mod pipeline;
 
 pub(crate) use pipeline::{Replies, plan, push, resolve};
 
-use crate::{Cause, Counts, Epochs, Looked, Now, Settings};
+use crate::Cause;
+use crate::lent::{Counts, Epochs, Looked, Now, Settings};
 
 /// `redis_cache_bytes` of the header: a slice as the library hands one out.
 #[repr(C)]

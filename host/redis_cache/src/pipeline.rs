@@ -1,96 +1,202 @@
-//! Planning a call record, resolving its plan with the replies, and pushes.
-//!
-//! ```ignore
-//! let planned = cache.plan(now, &record, &mut counts, &mut plan, &mut send)?;
-//! server.write(planned.send);
-//! let replies = server.read(planned.responses);
-//! let resolved = cache.resolve(now, planned.plan, &replies, &mut answer)?;
-//! ```
+//! Pipelines, built under the names of the crate redis (pipeline.rs there).
 
-use crate::{Cache, Cause, Counts, Now, foreign};
+use crate::{Cmd, CommandCacheConfig, ToRedisArgs, cmd};
 
-/// What planning wrote.
-#[derive(Clone, Copy, Debug, PartialEq, Eq)]
-pub struct Planned<'a> {
-    /// The plan, which resolving is given: the front of the plan buffer.
-    pub plan: &'a [u8],
-    /// The bytes to send: the front of the send buffer.
-    pub send: &'a [u8],
-    /// Which of the responses to them are the replies.
-    pub responses: Responses,
+/// Several commands that are planned, sent and answered together.
+///
+/// ```
+/// let mut pipeline = redis_cache::pipe();
+/// pipeline
+///     .cmd("SET").arg("trap7").arg(12).ignore()
+///     .cmd("MGET").arg(&["trap7", "trap8"]);
+/// assert_eq!(pipeline.len(), 2);
+/// ```
+#[derive(Clone, Debug, Default, PartialEq, Eq)]
+pub struct Pipeline {
+    commands: Vec<Cmd>,
+    ignored: Vec<bool>,
+    transaction: bool,
 }
 
-/// Which responses are the replies: the first `offset` are skipped, the next `count` taken. `MULTI` and `EXEC` are always sent
-/// for a transaction; the reply to `EXEC` is then the one that is taken.
-#[derive(Clone, Copy, Debug, PartialEq, Eq)]
-pub struct Responses {
-    /// How many to skip.
-    pub offset: u64,
-    /// How many to take.
-    pub count: u64,
-}
-
-/// Why a planning was refused.
-#[derive(Clone, Copy, Debug, PartialEq, Eq)]
-pub struct PlanRefusal {
-    /// The cause.
-    pub cause: Cause,
-    /// With [`Cause::BadRecord`], the first byte at which no valid record goes on as this one does, or the record's length where it
-    /// ends early.
-    pub offset: Option<u64>,
-}
-
-/// What resolving wrote.
-#[derive(Clone, Copy, Debug, PartialEq, Eq)]
-pub struct Resolved<'a> {
-    /// One RESP3 array with an answer for each command, in a transaction inside an array of one: the front of the answer buffer.
-    pub answer: &'a [u8],
-    /// How many stores found no space.
-    pub refused: u64,
-}
-
-impl Cache<'_> {
-    /// `get_cached_pipeline`: looks up what the record's commands ask for, and writes the plan and the bytes to send. Bytes of the
-    /// buffers behind what is written stay as they were.
+impl Pipeline {
+    /// A pipeline with no commands yet.
     ///
-    /// # Errors
-    /// [`Cause::BadConfig`], [`Cause::BadArena`], [`Cause::TooLong`], [`Cause::BadRecord`], [`Cause::LateExpiry`],
-    /// [`Cause::ShortBuffer`]; arena, counts and buffers are then as they were.
-    pub fn plan<'a>(
-        &mut self,
-        now: Now,
-        record: &[u8],
-        counts: &mut Counts,
-        plan: &'a mut [u8],
-        send: &'a mut [u8],
-    ) -> Result<Planned<'a>, PlanRefusal> {
-        foreign::plan(self.arena, self.settings, now, record, counts, (plan, send))
+    /// ```
+    /// assert!(redis_cache::Pipeline::new().is_empty());
+    /// ```
+    pub fn new() -> Self {
+        Self::default()
     }
 
-    /// `CacheablePipeline::resolve`: puts the replies into the plan's places, stores what was fetched, and writes the result.
-    /// The replies are one RESP3 array of the responses that planning's counts take. Bytes of the answer buffer behind the
-    /// result stay as they were.
+    /// Wraps the commands in `MULTI` and `EXEC`. The answers are the same as without.
     ///
-    /// # Errors
-    /// [`Cause::BadConfig`], [`Cause::BadArena`], [`Cause::BadPlan`], [`Cause::BadReply`], [`Cause::ShortAnswer`]: arena and answer
-    /// buffer are then as they were. [`Cause::BadShape`]: stores of earlier commands remain, and the answer buffer is zeroed.
-    pub fn resolve<'a>(
-        &mut self,
-        now: Now,
-        plan: &[u8],
-        replies: &[u8],
-        answer: &'a mut [u8],
-    ) -> Result<Resolved<'a>, Cause> {
-        let given = foreign::Replies { plan, replies };
-        foreign::resolve(self.arena, self.settings, now, given, answer)
+    /// ```
+    /// let mut pipeline = redis_cache::pipe();
+    /// pipeline.atomic().cmd("GET").arg("trap7");
+    /// assert!(pipeline.is_transaction());
+    /// ```
+    pub fn atomic(&mut self) -> &mut Self {
+        self.transaction = true;
+        self
     }
 
-    /// Does what a push asks for: drops the keys that an `invalidate` names, or all, and adds their entries to `invalidate`.
-    /// Any other push, and any other value, is ignored.
+    /// Whether it is a transaction.
     ///
-    /// # Errors
-    /// [`Cause::BadConfig`], [`Cause::BadArena`], [`Cause::BadReply`]; arena and counts are then as they were.
-    pub fn push(&mut self, push: &[u8], counts: &mut Counts) -> Result<(), Cause> {
-        foreign::push(self.arena, self.settings, push, counts)
+    /// ```
+    /// assert!(!redis_cache::pipe().is_transaction());
+    /// ```
+    pub fn is_transaction(&self) -> bool {
+        self.transaction
     }
+
+    /// How many commands it has.
+    ///
+    /// ```
+    /// assert_eq!(redis_cache::pipe().cmd("PING").len(), 1);
+    /// ```
+    pub fn len(&self) -> usize {
+        self.commands.len()
+    }
+
+    /// Whether it has none.
+    ///
+    /// ```
+    /// assert!(redis_cache::pipe().is_empty());
+    /// ```
+    pub fn is_empty(&self) -> bool {
+        self.commands.is_empty()
+    }
+
+    /// Appends a command.
+    ///
+    /// ```
+    /// use redis_cache::{cmd, pipe};
+    ///
+    /// assert_eq!(pipe().add_command(cmd("PING")).len(), 1);
+    /// ```
+    pub fn add_command(&mut self, cmd: Cmd) -> &mut Self {
+        self.commands.push(cmd);
+        self.ignored.push(false);
+        self
+    }
+
+    /// Begins a command of this name, to which [`Pipeline::arg`] and the others then belong.
+    ///
+    /// ```
+    /// let mut pipeline = redis_cache::pipe();
+    /// pipeline.cmd("GET").arg("trap7").cmd("GET").arg("trap8");
+    /// assert_eq!(pipeline.len(), 2);
+    /// ```
+    pub fn cmd(&mut self, name: &str) -> &mut Self {
+        self.add_command(cmd(name))
+    }
+
+    /// Appends an argument to the last command, as [`Cmd::arg`] does.
+    ///
+    /// # Panics
+    /// Where no command was begun.
+    ///
+    /// ```
+    /// let mut pipeline = redis_cache::pipe();
+    /// pipeline.cmd("GET").arg("trap7");
+    /// let get = pipeline.cmd_iter().next().expect("one command");
+    /// assert_eq!(get.args_iter().len(), 2);
+    /// ```
+    pub fn arg<T: ToRedisArgs>(&mut self, arg: T) -> &mut Self {
+        self.last().arg(arg);
+        self
+    }
+
+    /// Appends the cursor to the last command, as [`Cmd::cursor_arg`] does.
+    ///
+    /// # Panics
+    /// Where no command was begun.
+    ///
+    /// ```
+    /// let mut pipeline = redis_cache::pipe();
+    /// pipeline.cmd("SSCAN").arg("traps").cursor_arg(0);
+    /// assert!(pipeline.cmd_iter().all(|cmd| cmd.in_scan_mode()));
+    /// ```
+    pub fn cursor_arg(&mut self, cursor: u64) -> &mut Self {
+        self.last().cursor_arg(cursor);
+        self
+    }
+
+    /// What the last command asks of the cache, as [`Cmd::set_cache_config`] does.
+    ///
+    /// # Panics
+    /// Where no command was begun.
+    ///
+    /// ```
+    /// use redis_cache::{CommandCacheConfig, pipe};
+    ///
+    /// let mut pipeline = pipe();
+    /// pipeline.cmd("GET").arg("trap7").set_cache_config(CommandCacheConfig::new());
+    /// assert!(pipeline.cmd_iter().all(|cmd| cmd.get_cache_config().is_some()));
+    /// ```
+    pub fn set_cache_config(&mut self, command_cache_config: CommandCacheConfig) -> &mut Self {
+        self.last().set_cache_config(command_cache_config);
+        self
+    }
+
+    /// The last command is sent, is not looked up, and has no part in what [`Answer::query`](crate::Answer::query) converts.
+    ///
+    /// ```
+    /// let mut pipeline = redis_cache::pipe();
+    /// pipeline.cmd("SET").arg("trap7").arg(12).ignore().cmd("GET").arg("trap7");
+    /// assert_eq!(pipeline.len(), 2);
+    /// ```
+    pub fn ignore(&mut self) -> &mut Self {
+        if let Some(last) = self.ignored.last_mut() {
+            *last = true;
+        }
+        self
+    }
+
+    /// Removes the commands, and keeps their memory and whether it is a transaction.
+    ///
+    /// ```
+    /// let mut pipeline = redis_cache::pipe();
+    /// pipeline.cmd("PING").clear();
+    /// assert!(pipeline.is_empty());
+    /// ```
+    pub fn clear(&mut self) {
+        self.commands.clear();
+        self.ignored.clear();
+    }
+
+    /// The commands in order.
+    ///
+    /// ```
+    /// let mut pipeline = redis_cache::pipe();
+    /// pipeline.cmd("PING").cmd("PING");
+    /// assert_eq!(pipeline.cmd_iter().count(), 2);
+    /// ```
+    pub fn cmd_iter(&self) -> impl Iterator<Item = &Cmd> {
+        self.commands.iter()
+    }
+
+    pub(crate) fn commands(&self) -> &[Cmd] {
+        &self.commands
+    }
+
+    /// Which commands are ignored.
+    pub(crate) fn ignored(&self) -> &[bool] {
+        &self.ignored
+    }
+
+    fn last(&mut self) -> &mut Cmd {
+        self.commands
+            .last_mut()
+            .expect("`cmd` begins a command first")
+    }
+}
+
+/// An empty pipeline.
+///
+/// ```
+/// assert_eq!(redis_cache::pipe(), redis_cache::Pipeline::new());
+/// ```
+pub fn pipe() -> Pipeline {
+    Pipeline::new()
 }

@@ -1,8 +1,9 @@
 //! A desk that keeps trap catches in the cache: what a host writes.
 
-use redis_cache::{
-    Cache, Cause, Counts, Epochs, Looked, MODE_ALL, Now, PlanRefusal, Resolved, Responses,
-    Settings, new_epoch, read_counts,
+use redis_cache::Cause;
+use redis_cache::lent::{
+    Cache, Counts, Epochs, Looked, MODE_ALL, Now, PlanRefusal, Resolved, Responses, Settings,
+    new_epoch, read_counts,
 };
 
 const SETTINGS: Settings = Settings {

@@ -9,7 +9,8 @@ use super::Party;
 use crate::guarded::{Guarded, Side};
 use calls::{Answer, At, Call, Refusal, Setup, State};
 use model::layout;
-use redis_cache::{Cache, Cause, Counts, Epochs, Looked, Now, Settings, new_epoch, read_counts};
+use redis_cache::Cause;
+use redis_cache::lent::{Cache, Counts, Epochs, Looked, Now, Settings, new_epoch, read_counts};
 
 /// What stands around the counts.
 const BESIDE: Counts = Counts {

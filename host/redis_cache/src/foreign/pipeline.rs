@@ -1,7 +1,8 @@
 //! Planning, resolving and pushes. What is said above of every call holds here too; the plan, send and answer buffers are lent
 //! by `&mut`.
 
-use crate::{Cause, Counts, Now, PlanRefusal, Planned, Resolved, Responses, Settings};
+use crate::Cause;
+use crate::lent::{Counts, Now, PlanRefusal, Planned, Resolved, Responses, Settings};
 
 /// `redis_cache_plan_return` of the header.
 #[repr(C)]
