@@ -4,7 +4,7 @@ mod convert;
 mod read;
 
 pub use convert::{FromRedisValue, ParsingError, from_redis_value};
-pub(crate) use read::result;
+pub(crate) use read::{MOST_BYTES, MOST_DEEP, result};
 
 use std::borrow::Cow;
 use std::fmt;
