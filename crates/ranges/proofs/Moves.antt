@@ -1,6 +1,6 @@
 -- One pure law for each turn of a loop that moves a range, and for each function that calls such ones. Assumes nothing.
 use mathlib.Core.Path.{_≡_, refl, sym}
-use mathlib.Core.List.{[], _∷_, _++_, append-assoc, reverse-append, reverse-reverse}
+use mathlib.Core.List.{[], _∷_, _++_, append-assoc, append-nil, reverse-append, reverse-reverse}
 use Prim.Native.Nat.{ℕ, _+_, _-_, _≤_, _<_}
 use native.Mathlib.Omega.{arith}
 use lib.ListN.{length, getD, take, drop, set, replicate, length-append, length-reverse}
@@ -11,6 +11,28 @@ use Rattle.buffer.specs.Part.{part, put, length-part, length-put, put-put, arou
 use Rattle.buffer.specs.Step.{part-suc, part-cons, put-nil, set-put, put-next, put-front, getD-put-before, getD-put-after}
 use Rattle.buffer.specs.Zero.{zeroed}
 use Rattle.buffer.specs.Move.{moved, resized, rotated, rotated-is}
+
+-- a range put where it stands changes nothing
+pub part-back : (s : Bytes) (at n : ℕ) → at + n ≤ length s → put s at (part s at n) ≡ s
+unfolding put
+part-back s at n h = let l : length (part s at n) ≡ n = length-part s at n h in rw l (sym (around-part s at n))
+
+-- and so does a copy of a range to its own place
+pub moved-back : (s : Bytes) (from to n : ℕ) → to ≡ from → from + n ≤ length s → s ≡ moved s from to n
+moved-back s from to n e h = rw e (sym (part-back s from n h))
+
+-- no bytes are in another order before or behind others
+pub rotated-first : (s : Bytes) (from mid end : ℕ) → from ≡ mid → mid ≤ end → end ≤ length s → s ≡ rotated s from mid end
+unfolding rotated part
+rotated-first s from mid end e a h =
+    let n : mid - from ≡ 0 = omega arith in
+    rw (n, e, append-nil (take (end - mid) (drop mid s))) (sym (unfold part in part-back s mid (end - mid) (omega arith)))
+
+pub rotated-second : (s : Bytes) (from mid end : ℕ) → from ≤ mid → mid ≡ end → end ≤ length s → s ≡ rotated s from mid end
+unfolding rotated part
+rotated-second s from mid end a e h =
+    let n : end - mid ≡ 0 = omega arith in
+    rw n (sym (unfold part in part-back s from (mid - from) (omega arith)))
 
 -- nothing is moved yet
 pub down-none : (s : Bytes) (from to : ℕ) → s ≡ moved s from to 0

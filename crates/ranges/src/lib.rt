@@ -30,12 +30,15 @@ fn move_up(s: &mut [u8], from: usize, to: usize, n: usize)
     }
 }
 
-// Copies the n bytes at `from` to `to`, right also where the two ranges overlap.
+// Copies the n bytes at `from` to `to`, right also where the two ranges overlap; nothing is done where they are one.
 pub fn copy_within(s: &mut [u8], from: usize, to: usize, n: usize)
     requires { ⌜ (from + n ≤ length (now s)) × (to + n ≤ length (now s)) ⌝ }
     ensures { λ _. ⌜ now (s .exit) ≡ moved (now (s .entry)) from to n ⌝ }
 {
-    if to <= from {
+    if to == from {
+        return;
+    }
+    if to < from {
         move_down(s, from, to, n);
         return;
     }
@@ -77,11 +80,18 @@ fn exchange(s: &mut [u8], a: usize, b: usize, n: usize)
     }
 }
 
-// What `rotate` does, by reversals: each range reversed, and then both as one. Right for all ranges, and slow for long ones.
+// What `rotate` does, by reversals: each range reversed, and then both as one; nothing where one of them is empty. Right for all ranges, and slow for
+// long ones.
 fn turn(s: &mut [u8], from: usize, mid: usize, end: usize)
     requires { ⌜ (from ≤ mid) × (mid ≤ end) × (end ≤ length (now s)) ⌝ }
     ensures { λ _. ⌜ now (s .exit) ≡ rotated (now (s .entry)) from mid end ⌝ }
 {
+    if from == mid {
+        return;
+    }
+    if mid == end {
+        return;
+    }
     bytes::reverse(s, from, mid);
     bytes::reverse(s, mid, end);
     bytes::reverse(s, from, end);

@@ -1,0 +1,50 @@
+-- `ranges::copy_within` meets its contract: a range copied to its own place changes nothing. Assumes nothing.
+use native.Mathlib.Omega.{arith}
+use Rattle.ranges.proofs.Moves.{moved-back}
+use borrow.Author.Needs.{needs}
+use Rattle.ranges.proofs.copy_within.Statement.{statement}
+use Rattle.ranges.proofs.copy_within.Tie as tie
+use Rattle.ranges.proofs.copy_within.Reads as reads
+use Rattle.ranges.proofs.copy_within.Lts as lts
+use Rattle.ranges.proofs.move_down.Reads as move-down-reads
+use Rattle.ranges.proofs.move_up.Reads as move-up-reads
+
+-- src/lib.rt:39:9
+returns : tie.Need-returns
+returns c = moved-back _ _ _ _ (c .if1 .taken) (omega arith)
+
+-- src/lib.rt:42:9
+move-down-requires : tie.Need-move-down-requires
+move-down-requires c κs = search needs
+
+-- src/lib.rt:43:9
+same-length : tie.Need-same-length
+same-length c = search needs
+
+-- src/lib.rt:43:9
+returns-2 : tie.Need-returns-2
+returns-2 c = search needs
+
+-- src/lib.rt:45:5
+move-up-requires : tie.Need-move-up-requires
+move-up-requires c κs = search needs
+
+-- src/lib.rt:34:1
+same-length-2 : tie.Need-same-length-2
+same-length-2 c = search needs
+
+-- src/lib.rt:34:1
+returns-3 : tie.Need-returns-3
+returns-3 c = search needs
+
+pub copy-within-spec : {M : Type 1} → statement M
+copy-within-spec =
+    tie.close
+    (tie.spec
+    returns
+    move-down-requires
+    same-length
+    returns-2
+    move-up-requires
+    same-length-2
+    returns-3)
