@@ -16,7 +16,7 @@ use Rattle.resp3.specs.Ends.{isValue}
 use Rattle.siphash.specs.Sip.{sipHash13}
 use Rattle.arena.specs.Decode.{every}
 use Rattle.arena.specs.Tests.{every-yes}
-use Rattle.arena_check.specs.Check.{keyAt, entriesAt, itemNext, itemWithin, entriesEnd, itemOk}
+use Rattle.arena_check.specs.Check.{keyIn, keyAt, entriesAt, itemNext, itemWithin, entriesEnd, itemOk}
 
 -- a test alone
 pub if-same : (b : Bool) → cond b true false ≡ b
@@ -38,17 +38,14 @@ module _ (s : Bytes) (end at : ℕ) where
   within-says e = let w = every-yes _ e in (leb-true _ _ (w .0), leb-true _ _ (w .1 .0))
 
 -- the hash of the key, by the length that was read
-pub hash-read : (s : Bytes) (at k r : ℕ) → k ≡ read32 s at → r ≡ sipHash13 (take (at + 32 + k - (at + 32)) (drop (at + 32) s)) → r ≡ sipHash13 (keyAt s at)
+pub hash-read : (s : Bytes) (h at k r : ℕ) → k ≡ read32 s at → r ≡ sipHash13 (take (at + h + k - (at + h)) (drop (at + h) s)) → r ≡ sipHash13 (keyIn h s at)
 unfolding part
-hash-read s at k r a e = let n : at + 32 + k - (at + 32) ≡ k = omega arith in rw (n, a) at e
-
--- the filler of an item's head, as it was tested
-pub filler : (s : Bytes) (at : ℕ) (r : Bool) → r ≡ allZero (part s (at + 28) (at + 32 - (at + 28))) → allZero (part s (at + 28) 4) ≡ r
-filler s at r e = let n : at + 32 - (at + 28) ≡ 4 = omega arith in sym (rw n at e)
+hash-read s h at k r a e = let n : at + h + k - (at + h) ≡ k = omega arith in rw (n, a) at e
 
 -- the test of its entries' end, by what was read
 pub ends-read : (s : Bytes) (at k n next r : ℕ) → k ≡ read32 s at → n ≡ read32 s (at + 4) → next ≡ itemNext s at
-    → r ≡ entriesEnd isValue s next n (at + 32 + k) → eqb r next ≡ eqb (entriesEnd isValue s (itemNext s at) (read32 s (at + 4)) (entriesAt s at)) (itemNext s at)
+    → r ≡ entriesEnd isValue s next n (at + 32 + k) → eqb r next ≡ eqb (entriesEnd isValue s (itemNext s at) (read32 s (at + 4)) (entriesAt s at))
+    (itemNext s at)
 ends-read s at k n next r a b c e = rw (e, a, b, c)
 
 module _ (isValue : Bytes → Bool) (home : Bytes → ℕ) (s : Bytes) (shard end at : ℕ) where

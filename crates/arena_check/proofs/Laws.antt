@@ -1,14 +1,18 @@
 -- One pure law for each path of the code: what its tests come to. Assumes nothing.
 use mathlib.Core.Path.{_≡_, refl, sym, ap, _∙_}
-use Prim.Native.Nat.{ℕ, suc, _+_, _-_, _≤_, _<_}
+use Prim.Native.Nat.{ℕ, zero, suc, _+_, _*_, _-_, _≤_, _<_}
 use native.Mathlib.Omega.{arith}
 use native.Mathlib.Numerals.{add-one}
 use mathlib.Core.Bool.{Bool, true, false, cond}
-use lib.ListN.{take, drop}
-use borrow.Author.Tests.{le-leb, lt-leb, leb-true}
+use mathlib.Core.List.{[], _∷_}
+use lib.ListN.{length, getD, take, drop}
+use lib.Dec.{eqb}
+use borrow.Author.Tests.{le-leb, lt-leb, leb-true, eqb-true, eqb-false, eq-eqb, ne-eqb}
+use Rattle.buffer.specs.Cases.{byTest, eqb-same}
 use Rattle.buffer.specs.Same.{Bytes, same}
-use Rattle.buffer.specs.Field.{read32}
+use Rattle.buffer.specs.Field.{readLe, read32}
 use Rattle.buffer.specs.Part.{part}
+use Rattle.buffer.specs.Step.{part-cons}
 use Rattle.buffer.specs.Zero.{allZero}
 use Rattle.config.specs.Limits.{maxBytes}
 use Rattle.resp3.specs.Ends.{isValue}
@@ -19,11 +23,11 @@ use Rattle.arena_check.specs.Check.{keyIn, nextIn, entryNext, valueAt, e
 
 -- ---- the place after k + 1 things, and keys before
 
-module _ (keyAt : ℕ → Bytes) (next : ℕ → ℕ) where
-  pub nth-more : (k a : ℕ) → nth next (k + 1) a ≡ next (nth next k a)
-  unfolding nth
-  nth-more k a = rw (add-one k)
+pub nth-more : (next : ℕ → ℕ) (k a : ℕ) → nth next (k + 1) a ≡ next (nth next k a)
+unfolding nth
+nth-more next k a = rw (add-one k)
 
+module _ (keyAt : ℕ → Bytes) (next : ℕ → ℕ) where
   left-is : (n k : ℕ) → k < n → n - k ≡ suc (n - (k + 1))
   left-is n k h = omega arith
 
@@ -49,11 +53,32 @@ same-keys s h p at m n r a b e = sym (rw (a, b) at e)
 pub next-place : (s : Bytes) (h f p m n : ℕ) → m ≡ read32 s p → n ≡ read32 s (p + f) → p + h + m + n ≡ nextIn h f s p
 next-place s h f p m n a b = rw (a, b)
 
--- ---- an entry
+-- ---- zeros, by the number that they spell
 
--- the filler of its head, as it was tested
-pub filler : (s : Bytes) (at : ℕ) (r : Bool) → r ≡ allZero (part s (at + 8) (at + 16 - (at + 8))) → allZero (part s (at + 8) 8) ≡ r
-filler s at r e = let n : at + 16 - (at + 8) ≡ 8 = omega arith in sym (rw n at e)
+sum-zero : (x r : ℕ) → eqb (x + 256 * r) 0 ≡ cond (eqb x 0) (eqb r 0) false
+sum-zero x r =
+    byTest (eqb x 0)
+    (λ e.
+    byTest (eqb r 0)
+    (λ f. rw (e, f) (eq-eqb (x + 256 * r) 0 (omega (arith, eqb-true x 0 e, eqb-true r 0 f))))
+    (λ f. rw (e, f) (ne-eqb (x + 256 * r) 0 (λ z. eqb-false r 0 f (omega arith)))))
+    (λ e. rw e (ne-eqb (x + 256 * r) 0 (λ z. eqb-false x 0 e (omega arith))))
+
+zero-field : (w : ℕ) (s : Bytes) (at : ℕ) → at + w ≤ length s → allZero (part s at w) ≡ eqb (readLe w s at) 0
+unfolding allZero readLe
+zero-field zero s at h = let p : part s at 0 ≡ [] = unfold part in refl in ap allZero p ∙ sym (eqb-same 0)
+zero-field (suc w) s at h =
+    let n : suc w ≡ 1 + w = omega arith in
+    let p : part s at (suc w) ≡ getD s at 0 ∷ part s (at + 1) w = ap (part s at) n ∙ part-cons s at w 0 (omega arith) in
+    let q : cond (eqb (getD s at 0) 0) (allZero (part s (at + 1) w)) false ≡ cond (eqb (getD s at 0) 0) (eqb (readLe w s (at + 1)) 0) false =
+    ap (λ (t : Bool). cond (eqb (getD s at 0) 0) t false) (zero-field w s (at + 1) (omega arith)) in
+    ap allZero p ∙ q ∙ sym (sum-zero (getD s at 0) (readLe w s (at + 1)))
+
+-- bytes are zero where the number read there is
+pub zero-read : (w : ℕ) (s : Bytes) (at r : ℕ) → at + w ≤ length s → r ≡ readLe w s at → allZero (part s at w) ≡ eqb r 0
+zero-read w s at r h e = zero-field w s at h ∙ ap (λ (i : ℕ). eqb i 0) (sym e)
+
+-- ---- an entry
 
 -- its value, by the lengths that were read
 pub value-read : (s : Bytes) (at c v : ℕ) (r : Bool) → c ≡ read32 s at → v ≡ read32 s (at + 4)

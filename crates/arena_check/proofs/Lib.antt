@@ -1,5 +1,6 @@
 pub mod Laws
+pub mod Chains
+pub mod Blocks
 pub mod Walks
-pub mod Marks
 pub mod Items
 pub mod Shards

@@ -7,10 +7,10 @@ use Rattle.siphash.specs.Sip.{sipHash13}
 abbrev pub homeIn : ℕ → Bytes → ℕ
 homeIn shards k = sipHash13 k % shards
 
--- the marks that show most keys of a shard to be new
+-- how many marks there are, of keys that are compared where they share one
 abbrev pub marks : ℕ
-marks = 16384
+marks = 2048
 
--- the mark of a hash: bits that the shard's number does not use
-abbrev pub markOf : ℕ → ℕ
-markOf hash = hash / 65536 % marks
+-- the mark of a key: bits of its hash that the shard's number does not use
+abbrev pub markOf : Bytes → ℕ
+markOf k = sipHash13 k / 65536 % marks

@@ -6,3 +6,4 @@ pub mod Items
 pub mod Shard
 pub mod Law
 pub mod Home
+pub mod Chain

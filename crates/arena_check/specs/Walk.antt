@@ -19,6 +19,11 @@ unfoldable pub nth : (ℕ → ℕ) → ℕ → ℕ → ℕ
 nth next zero a = a
 nth next (suc k) a = next (nth next k a)
 
+-- where n things end that stand from `at` on; 0 where one of them is not ok
+unfoldable pub passes : (ℕ → ℕ) → (ℕ → Bool) → ℕ → ℕ → ℕ
+passes next ok zero at = at
+passes next ok (suc n) at = cond (ok at) (passes next ok n (next at)) 0
+
 module _ (keyAt : ℕ → Bytes) (next : ℕ → ℕ) where
   -- whether one of the n things from `from` on has the key of the one at `at`
   unfoldable pub before : ℕ → ℕ → ℕ → Bool

@@ -1,18 +1,18 @@
-// Whether bytes are an image of the arena: the test behind cause 9, of every call that is lent an arena. It goes over each byte once; the keys of
-// a shard are compared only where their hashes share a mark.
-ghost use mathlib.Core.Bool.{false};
+// Whether bytes are an image of the arena: the test behind cause 9, of every call that is lent an arena. It goes over each byte once, and over heads
+// and keys once more where several stand in a row; of many keys only those are compared that share a mark.
 ghost use mathlib.Core.Path.{_≡_};
 ghost use Prim.Native.Nat.{ℕ, _+_, _*_, _-_, _^_, _≤_, _<_};
 ghost use lib.ListN.{length};
 ghost use Rattle.buffer.specs.Field.{read32};
 ghost use Rattle.buffer.specs.Part.{part};
-ghost use Rattle.buffer.specs.Same.{same};
+ghost use Rattle.buffer.specs.Same.{Bytes, same};
 ghost use Rattle.resp3.specs.Ends.{isValue};
 ghost use Rattle.arena_check.specs.Walk.{nth, before};
 ghost use Rattle.siphash.specs.Sip.{sipHash13};
 ghost use Rattle.arena.specs.Decode.{isImage};
 ghost use Rattle.arena.specs.Sizes.{setupOf};
 ghost use Rattle.arena_check.specs.Home.{homeIn, markOf, marks};
+ghost use Rattle.arena_check.specs.Chain.{Stand, keysFrom, Among, Answers, Latest, Chains, Linked, Chained};
 ghost use Rattle.arena_check.specs.Check.{keyIn, nextIn, keyAt, itemNext, itemWithin, entryOk, entriesEnd, itemOk, itemsEnd, shardOk};
 
 // Whether two ranges of s have the same bytes.
@@ -56,6 +56,143 @@ fn key_before(s: &[u8], h: usize, f: usize, n: usize, from: usize, at: usize) ->
     false
 }
 
+// Whether no two of the n things from `first` on have the same key, where they are few: each is compared with all before it.
+fn few_distinct(s: &[u8], h: usize, f: usize, n: usize, first: usize) -> bool
+    requires { ⌜ Stand h f (now s) n first ⌝ }
+    ensures { λ r. ⌜ Answers (keysFrom h f (now (s .entry)) first) r n n ⌝ }
+{
+    let mut at = first;
+    let mut i = 0;
+    while i < n {
+        if key_before(s, h, f, i, first, at) {
+            return false;
+        }
+        at = next_place(s, h, f, at);
+        i += 1;
+    }
+    true
+}
+
+// The hash of the key of the thing at `at`.
+fn key_hash(s: &[u8], h: usize, at: usize) -> u64
+    requires { ⌜ (4 ≤ h) × (at + h + read32 (now s) at ≤ length (now s)) × (length (now s) < 2 ^ 32) ⌝ }
+    ensures { λ r. ⌜ r ≡ sipHash13 (keyIn h (now (s .entry)) at) ⌝ }
+{
+    let from = at + h;
+    let to = from + buffer::read_u32(s, at) as usize;
+    siphash::sip_hash_13(&s[from..to])
+}
+
+// The mark of the key of the thing at `at`: things with the same key have the same.
+fn mark_at(s: &[u8], h: usize, at: usize) -> usize
+    requires { ⌜ (4 ≤ h) × (at + h + read32 (now s) at ≤ length (now s)) × (length (now s) < 2 ^ 32) ⌝ }
+    ensures { λ r. ⌜ (r ≡ markOf (keyIn h (now (s .entry)) at)) × (r < marks) ⌝ }
+{
+    (key_hash(s, h, at) / 65536 % 2048) as usize
+}
+
+// A place and a number of a thing, as they are kept.
+fn from_u32(x: u32) -> usize
+    ensures { λ r. ⌜ r ≡ x ⌝ }
+{
+    x as usize
+}
+
+fn from_u16(x: u16) -> usize
+    ensures { λ r. ⌜ r ≡ x ⌝ }
+{
+    x as usize
+}
+
+// Whether a thing of a chain has the key of the one at `at`. Things are numbered from 1 on; `place` has where each stands and `prev` the number of
+// the one before it that has its mark, 0 for none; `last` is the number of the last one with the mark of the thing at `at`.
+fn in_chain(s: &[u8], h: usize, place: &[u32], prev: &[u16], last: usize, at: usize) -> bool
+    requires { ⌜ Linked h (now s) (now place) (now prev) last × (4 ≤ h) × (at + h + read32 (now s) at ≤ length (now s)) × (length (now s) < 2 ^ 32) ⌝ }
+    ensures { λ r. ⌜ ((key : ℕ → Bytes) (k : ℕ) → Chains key (keyIn h (now (s .entry))) (now (place .entry)) (now (prev .entry)) k
+        → Latest key (markOf (keyIn h (now (s .entry)) at)) last k → Among key r k (keyIn h (now (s .entry)) at)) ⌝ }
+{
+    let key = at + h;
+    let len = buffer::read_u32(s, at) as usize;
+    let mut c = last;
+    while 0 < c {
+        let p = from_u32(place[c - 1]);
+        let m = buffer::read_u32(s, p) as usize;
+        if same_part(s, p + h, m, key, len) {
+            return true;
+        }
+        c = from_u16(prev[c - 1]);
+    }
+    false
+}
+
+// Where the first m of n things from `first` on end; 0 where two things have the same key, one of them among the first m. Each is compared with those
+// of the first m before it that share its mark.
+fn chained(s: &[u8], h: usize, f: usize, m: usize, n: usize, first: usize) -> usize
+    requires { ⌜ Stand h f (now s) n first × (0 < m) × (m ≤ n) × (m ≤ 4096) ⌝ }
+    ensures { λ r. ⌜ Chained h f (now (s .entry)) first m n r ⌝ }
+{
+    let mut last = [0u16; 2048];
+    let mut prev = [0u16; 4096];
+    let mut place = [0u32; 4096];
+    let mut at = first;
+    let mut i = 0;
+    while i < m {
+        let mark = mark_at(s, h, at);
+        let c = last[mark];
+        if in_chain(s, h, &place, &prev, from_u16(c), at) {
+            return 0;
+        }
+        place[i] = at as u32;
+        prev[i] = c;
+        i += 1;
+        last[mark] = i as u16;
+        at = next_place(s, h, f, at);
+    }
+    let end = at;
+    while i < n {
+        let mark = mark_at(s, h, at);
+        let c = last[mark];
+        if in_chain(s, h, &place, &prev, from_u16(c), at) {
+            return 0;
+        }
+        at = next_place(s, h, f, at);
+        i += 1;
+    }
+    end
+}
+
+// The smaller of a number and 4096.
+fn at_most_4096(n: usize) -> usize
+    ensures { λ r. ⌜ (r ≤ n) × (r ≤ 4096) × (0 < n → 0 < r) ⌝ }
+{
+    if n < 4096 {
+        return n;
+    }
+    4096
+}
+
+// Whether no two of the n things from `first` on have the same key.
+fn distinct(s: &[u8], h: usize, f: usize, n: usize, first: usize) -> bool
+    requires { ⌜ Stand h f (now s) n first ⌝ }
+    ensures { λ r. ⌜ Answers (keysFrom h f (now (s .entry)) first) r n n ⌝ }
+{
+    if n <= 16 {
+        return few_distinct(s, h, f, n, first);
+    }
+    let mut at = first;
+    let mut left = n;
+    while 0 < left {
+        let m = at_most_4096(left);
+        let next = chained(s, h, f, m, left, at);
+        if next == 0 {
+            return false;
+        }
+        at = next;
+        left -= m;
+    }
+    true
+}
+
 // Whether an entry stands at `at`, within `end`.
 fn entry_ok(s: &[u8], end: usize, at: usize) -> bool
     requires { ⌜ (at ≤ end) × (end ≤ length (now s)) × (length (now s) < 2 ^ 32) ⌝ }
@@ -71,7 +208,7 @@ fn entry_ok(s: &[u8], end: usize, at: usize) -> bool
     if next > end {
         return false;
     }
-    if !buffer::all_zero(s, at + 8, at + 16) {
+    if buffer::read_u64(s, at + 8) != 0 {
         return false;
     }
     if c > config::MAX_BYTES {
@@ -91,11 +228,11 @@ fn entries_end(s: &[u8], end: usize, n: usize, first: usize) -> usize
         if !entry_ok(s, end, at) {
             return 0;
         }
-        if key_before(s, 16, 4, i, first, at) {
-            return 0;
-        }
         at = next_place(s, 16, 4, at);
         i += 1;
+    }
+    if !distinct(s, 16, 4, n, first) {
+        return 0;
     }
     at
 }
@@ -113,22 +250,12 @@ fn item_within(s: &[u8], end: usize, at: usize) -> bool
     at + 32 + k + e <= end
 }
 
-// The hash of the key of the item at `at`.
-fn key_hash(s: &[u8], at: usize) -> u64
-    requires { ⌜ (itemNext (now s) at ≤ length (now s)) × (length (now s) < 2 ^ 32) ⌝ }
-    ensures { λ r. ⌜ r ≡ sipHash13 (keyAt (now (s .entry)) at) ⌝ }
-{
-    let from = at + 32;
-    let to = from + buffer::read_u32(s, at) as usize;
-    siphash::sip_hash_13(&s[from..to])
-}
-
 // Whether an item of that shard stands at `at`, within `end`; its lengths are, and its key's hash is given.
 fn item_ok(s: &[u8], shards: usize, shard: usize, end: usize, at: usize, hash: u64) -> bool
     requires { ⌜ (at + 32 ≤ end) × (itemNext (now s) at ≤ end) × (end ≤ length (now s)) × (length (now s) < 2 ^ 32) × (hash ≡ sipHash13 (keyAt (now s) at)) × (0 < shards) ⌝ }
     ensures { λ r. ⌜ r ≡ itemOk isValue (homeIn shards) (now (s .entry)) shard end at ⌝ }
 {
-    if !buffer::all_zero(s, at + 28, at + 32) {
+    if buffer::read_u32(s, at + 28) != 0 {
         return false;
     }
     let k = buffer::read_u32(s, at) as usize;
@@ -146,48 +273,26 @@ fn item_ok(s: &[u8], shards: usize, shard: usize, end: usize, at: usize, hash: u
     entries_end(s, next, n, at + 32 + k) == next
 }
 
-// The mark of a hash.
-fn mark_of(hash: u64) -> usize
-    ensures { λ r. ⌜ (r ≡ markOf hash) × (r < marks) ⌝ }
-{
-    (hash / 65536 % 16384) as usize
-}
-
-// Whether one of the n items before the one at `at` has its key. Where its mark is not set none has, and they are not looked at.
-fn repeated(s: &[u8], mark: u8, n: usize, at: usize) -> bool
-    requires { ⌜ ((k : ℕ) → k < n → itemNext (now s) (nth (itemNext (now s)) k 16) ≤ length (now s)) × (itemNext (now s) at ≤ length (now s))
-        × (length (now s) < 2 ^ 32) × (mark ≡ 0 → before (keyAt (now s)) (itemNext (now s)) n 16 at ≡ false) ⌝ }
-    ensures { λ r. ⌜ r ≡ before (keyAt (now (s .entry))) (itemNext (now (s .entry))) n 16 at ⌝ }
-{
-    if mark == 0 {
-        return false;
-    }
-    key_before(s, 32, 24, n, 16, at)
-}
-
 // Where n items of that shard end that stand from byte 16 on, within `end`; 0 where they do not, or a key is there twice.
 fn items_end(s: &[u8], shards: usize, shard: usize, end: usize, n: usize) -> usize
     requires { ⌜ (16 ≤ end) × (end ≤ length (now s)) × (length (now s) < 2 ^ 32) × (0 < shards) ⌝ }
     ensures { λ r. ⌜ r ≡ itemsEnd isValue (homeIn shards) (now (s .entry)) shard end n ⌝ }
 {
-    let mut seen = [0u8; 16384];
     let mut at = 16;
     let mut i = 0;
     while i < n {
         if !item_within(s, end, at) {
             return 0;
         }
-        let hash = key_hash(s, at);
+        let hash = key_hash(s, 32, at);
         if !item_ok(s, shards, shard, end, at, hash) {
             return 0;
         }
-        let mark = mark_of(hash);
-        if repeated(s, seen[mark], i, at) {
-            return 0;
-        }
-        seen[mark] = 1;
         at = next_place(s, 32, 24, at);
         i += 1;
+    }
+    if !distinct(s, 32, 24, n, 16) {
+        return 0;
     }
     at
 }
@@ -205,7 +310,7 @@ fn shard_ok(s: &[u8], shards: usize, shard: usize, keys: usize) -> bool
     if end > s.len() {
         return false;
     }
-    if !buffer::all_zero(s, 8, 16) {
+    if buffer::read_u64(s, 8) != 0 {
         return false;
     }
     if !buffer::all_zero(s, end, s.len()) {

@@ -76,7 +76,8 @@ returns c =
     let a = c .before .before .before .before .before .before .before .args in
     let l = c .before .before .before .before .loop in
     let hit =
-    same-keys (a .s .now) (a .h) (l .p) (a .at) _ _ _ (c .before .before .read-u322 .ensures) (c .before .before .before .before .before .read-u32 .ensures) (c .before .same-part .ensures) ∙ c .if1 .taken in
+    same-keys (a .s .now) (a .h) (l .p) (a .at) _ _ _ (c .before .before .read-u322 .ensures)
+    (c .before .before .before .before .before .read-u32 .ensures) (c .before .same-part .ensures) ∙ c .if1 .taken in
     sym (l .inv .2 ∙ before-hit (keyIn (a .h) (a .s .now)) (nextIn (a .h) (a .f) (a .s .now)) (a .n) (l .k) (l .p) (a .at) (omega arith) hit)
 
 -- src/lib.rt:41:13
@@ -117,12 +118,13 @@ loop-again c =
     let a = c .before .before .before .before .before .before .before .before .args in
     let l = c .before .before .before .before .before .loop in
     let other =
-    same-keys (a .s .now) (a .h) (l .p) (a .at) _ _ _ (c .before .before .before .read-u322 .ensures) (c .before .before .before .before .before .before .read-u32 .ensures) (c .before .before .same-part .ensures) ∙ c .before .if1 .left in
+    same-keys (a .s .now) (a .h) (l .p) (a .at) _ _ _ (c .before .before .before .read-u322 .ensures)
+    (c .before .before .before .before .before .before .read-u32 .ensures) (c .before .before .same-part .ensures) ∙ c .before .if1 .left in
     let step = next-place (a .s .now) (a .h) (a .f) (l .p) _ _ (c .before .before .before .read-u322 .ensures) (c .read-u323 .ensures) in
     let next : ℕ → ℕ = nextIn (a .h) (a .f) (a .s .now) in
     let key : ℕ → Bytes = keyIn (a .h) (a .s .now) in (
       omega arith,
-      step ∙ ap next (l .inv .1) ∙ sym (nth-more key next (l .k) (a .from)),
+      step ∙ ap next (l .inv .1) ∙ sym (nth-more next (l .k) (a .from)),
       l .inv .2 ∙ before-more key next (a .n) (l .k) (l .p) (a .at) (omega arith) other
           ∙ ap (λ (i : ℕ). before key next (a .n - (l .k + 1)) i (a .at)) (sym step),
     )

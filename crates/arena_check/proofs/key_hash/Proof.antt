@@ -1,4 +1,4 @@
--- `arena_check::key_hash` meets its contract: what is hashed is the item's key. Assumes nothing.
+-- `arena_check::key_hash` meets its contract: what is hashed is the thing's key. Assumes nothing.
 use Rattle.arena_check.proofs.Items.{hash-read}
 use borrow.Author.Needs.{needs}
 use Rattle.arena_check.proofs.key_hash.Statement.{statement}
@@ -8,41 +8,34 @@ use Rattle.arena_check.proofs.key_hash.Lts as lts
 use Rattle.buffer.proofs.read_u32.Reads as read-u32-reads
 use Rattle.siphash.proofs.sip_hash_13.Reads as sip-hash-13-reads
 
--- src/lib.rt:122:16
 add-from : tie.Need-add-from
 add-from c = search needs
 
--- src/lib.rt:123:21
 read-u32-requires : tie.Need-read-u32-requires
 read-u32-requires c κs = search needs
 
--- src/lib.rt:123:21
 cast-to : tie.Need-cast-to
 cast-to c = search needs
 
--- src/lib.rt:123:14
 add-to : tie.Need-add-to
 add-to c = search needs
 
--- src/lib.rt:124:26
 sub-sip-hash-13 : tie.Need-sub-sip-hash-13
 sub-sip-hash-13 c = search needs
 
--- src/lib.rt:124:26
 part-sip-hash-13-start : tie.Need-part-sip-hash-13-start
 part-sip-hash-13-start c = search needs
 
--- src/lib.rt:124:26
 part-sip-hash-13-end : tie.Need-part-sip-hash-13-end
 part-sip-hash-13-end c = search needs
 
--- src/lib.rt:124:5
 sip-hash-13-requires : tie.Need-sip-hash-13-requires
 sip-hash-13-requires c κs = search needs
 
--- src/lib.rt:118:1
 returns : tie.Need-returns
-returns c = let a = c .before .before .before .before .args in hash-read (a .s .now) (a .at) _ _ (c .before .before .read-u32 .ensures) (c .sip-hash-13 .ensures)
+returns c =
+    let a = c .before .before .before .before .args in hash-read (a .s .now) (a .h) (a .at) _ _ (c .before .before .read-u32 .ensures)
+    (c .sip-hash-13 .ensures)
 
 pub key-hash-spec : {M : Type 1} → statement M
 key-hash-spec =

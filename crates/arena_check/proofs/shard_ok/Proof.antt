@@ -2,9 +2,10 @@
 use mathlib.Core.Path.{sym, ap, _∙_}
 use Prim.Native.Nat.{ℕ, _+_}
 use native.Mathlib.Omega.{arith}
-use borrow.Author.Tests.{not-true, not-false}
+use borrow.Author.Tests.{not-true, not-false, ne-eqb, eq-eqb}
 use Rattle.resp3.specs.Ends.{isValue}
 use Rattle.arena_check.specs.Home.{homeIn}
+use Rattle.arena_check.proofs.Laws.{zero-read}
 use Rattle.arena_check.proofs.Shards.{rest-read, shard-many, shard-long, shard-filled, shard-rest, shard-items}
 use borrow.Author.Needs.{needs}
 use Rattle.arena_check.proofs.shard_ok.Statement.{statement}
@@ -14,70 +15,64 @@ use Rattle.arena_check.proofs.shard_ok.Lts as lts
 use Rattle.arena_check.proofs.items_end.Reads as items-end-reads
 use Rattle.buffer.proofs.all_zero.Reads as all-zero-reads
 use Rattle.buffer.proofs.read_u32.Reads as read-u32-reads
+use Rattle.buffer.proofs.read_u64.Reads as read-u64-reads
 
--- src/lib.rt:206:13
 read-u32-requires : tie.Need-read-u32-requires
 read-u32-requires c κs = search needs
 
--- src/lib.rt:206:13
 cast-n : tie.Need-cast-n
 cast-n c = search needs
 
--- src/lib.rt:208:9
 returns : tie.Need-returns
 returns c =
     let a = c .before .before .before .args in
     sym (shard-many isValue (homeIn (a .shards)) (a .keys) (a .s .now) (a .shard) (omega arith))
 
--- src/lib.rt:210:20
 read-u32-requires-2 : tie.Need-read-u32-requires-2
 read-u32-requires-2 c κs = search needs
 
--- src/lib.rt:210:20
 cast-end : tie.Need-cast-end
 cast-end c = search needs
 
--- src/lib.rt:210:15
 add-end : tie.Need-add-end
 add-end c = search needs
 
--- src/lib.rt:212:9
 returns-2 : tie.Need-returns-2
 returns-2 c =
     let a = c .before .before .before .before .before .args in
     sym (shard-long isValue (homeIn (a .shards)) (a .keys) (a .s .now) (a .shard) (omega arith) (omega arith))
 
--- src/lib.rt:214:9
-all-zero-requires : tie.Need-all-zero-requires
-all-zero-requires c κs = search needs
+read-u64-requires : tie.Need-read-u64-requires
+read-u64-requires c κs = search needs
 
--- src/lib.rt:215:9
 returns-3 : tie.Need-returns-3
 returns-3 c =
     let a = c .before .before .before .before .before .before .before .args in
-    sym (shard-filled isValue (homeIn (a .shards)) (a .keys) (a .s .now) (a .shard) (omega arith) (omega arith) (sym (c .before .all-zero .ensures) ∙ not-true _ (c .if3 .taken)))
+    sym (shard-filled isValue (homeIn (a .shards)) (a .keys) (a .s .now) (a .shard) (omega arith) (omega arith)
+    (zero-read 8 (a .s .now) 8 _ (omega arith) (c .before .read-u64 .ensures) ∙ ne-eqb _ 0 (c .if3 .taken)))
 
--- src/lib.rt:217:9
-all-zero-requires-2 : tie.Need-all-zero-requires-2
-all-zero-requires-2 c κs = search needs
+all-zero-requires : tie.Need-all-zero-requires
+all-zero-requires c κs = search needs
 
--- src/lib.rt:218:9
 returns-4 : tie.Need-returns-4
 returns-4 c =
     let a = c .before .before .before .before .before .before .before .before .before .args in
-    sym (shard-rest isValue (homeIn (a .shards)) (a .keys) (a .s .now) (a .shard) (omega arith) (omega arith) (sym (c .before .before .before .all-zero .ensures) ∙ not-false _ (c .before .before .if3 .left)) _ (ap (λ (i : ℕ). 16 + i) (c .before .before .before .before .before .read-u322 .ensures))
-    (rest-read (a .s .now) _ _ (c .before .all-zero2 .ensures) ∙ not-true _ (c .if4 .taken)))
+    sym (shard-rest isValue (homeIn (a .shards)) (a .keys) (a .s .now) (a .shard) (omega arith) (omega arith)
+    (zero-read 8 (a .s .now) 8 _ (omega arith) (c .before .before .before .read-u64 .ensures) ∙ eq-eqb _ 0 (c .before .before .if3 .left)) _
+    (ap (λ (i : ℕ). 16 + i) (c .before .before .before .before .before .read-u322 .ensures))
+    (rest-read (a .s .now) _ _ (c .before .all-zero .ensures) ∙ not-true _ (c .if4 .taken)))
 
--- src/lib.rt:220:5
 items-end-requires : tie.Need-items-end-requires
 items-end-requires c κs = search needs
 
--- src/lib.rt:202:1
 returns-5 : tie.Need-returns-5
 returns-5 c =
     let a = c .before .before .before .before .before .before .before .before .before .before .args in
-    shard-items isValue (homeIn (a .shards)) (a .keys) (a .s .now) (a .shard) (omega arith) (omega arith) (sym (c .before .before .before .before .all-zero .ensures) ∙ not-false _ (c .before .before .before .if3 .left)) _ (ap (λ (i : ℕ). 16 + i) (c .before .before .before .before .before .before .read-u322 .ensures)) _ _
-    (rest-read (a .s .now) _ _ (c .before .before .all-zero2 .ensures) ∙ not-false _ (c .before .if4 .left)) (c .before .before .before .before .before .before .before .before .read-u32 .ensures) (c .items-end .ensures)
+    shard-items isValue (homeIn (a .shards)) (a .keys) (a .s .now) (a .shard) (omega arith) (omega arith)
+    (zero-read 8 (a .s .now) 8 _ (omega arith) (c .before .before .before .before .read-u64 .ensures) ∙ eq-eqb _ 0
+    (c .before .before .before .if3 .left)) _ (ap (λ (i : ℕ). 16 + i) (c .before .before .before .before .before .before .read-u322 .ensures)) _ _
+    (rest-read (a .s .now) _ _ (c .before .before .all-zero .ensures) ∙ not-false _ (c .before .if4 .left))
+    (c .before .before .before .before .before .before .before .before .read-u32 .ensures) (c .items-end .ensures)
 
 pub shard-ok-spec : {M : Type 1} → statement M
 shard-ok-spec =
@@ -90,9 +85,9 @@ shard-ok-spec =
     cast-end
     add-end
     returns-2
-    all-zero-requires
+    read-u64-requires
     returns-3
-    all-zero-requires-2
+    all-zero-requires
     returns-4
     items-end-requires
     returns-5)
