@@ -58,7 +58,7 @@ fn find_list(replies: &[u8], transaction: bool) -> Found
 }
 
 // Whether a plan is a transaction's.
-fn is_transaction(plan: &[u8]) -> bool
+pub fn is_transaction(plan: &[u8]) -> bool
     requires { ⌜ 8 ≤ length (now plan) ⌝ }
     ensures { λ r. ⌜ r ≡ readPlan (now (plan .entry)) .transaction ⌝ }
 {
@@ -66,7 +66,7 @@ fn is_transaction(plan: &[u8]) -> bool
 }
 
 // How many commands a plan has.
-fn command_count(plan: &[u8]) -> u64
+pub fn command_count(plan: &[u8]) -> u64
     requires { ⌜ 8 ≤ length (now plan) ⌝ }
     ensures { λ r. ⌜ r ≡ readPlan (now (plan .entry)) .commands ⌝ }
 {
@@ -74,7 +74,7 @@ fn command_count(plan: &[u8]) -> u64
 }
 
 // The walk at the plan's first node and the list's first reply.
-fn start_at(first: Cursor) -> Walk
+pub fn start_at(first: Cursor) -> Walk
     ensures { λ r. ⌜ r ≡ startAt first ⌝ }
 {
     let none = Cursor {
@@ -92,7 +92,7 @@ fn start_at(first: Cursor) -> Walk
 }
 
 // How many bytes stand before the answers: `*n`, in a transaction behind `*1`.
-fn head_len(transaction: bool, n: u64) -> usize
+pub fn head_len(transaction: bool, n: u64) -> usize
     ensures { λ r. ⌜ r ≡ length (resultHead transaction n) ⌝ }
 {
     let own = decimal::countdigits(n) + 3;
@@ -100,7 +100,7 @@ fn head_len(transaction: bool, n: u64) -> usize
 }
 
 // Writes them.
-fn write_result_head(answer: &mut [u8], transaction: bool, n: u64) -> usize
+pub fn write_result_head(answer: &mut [u8], transaction: bool, n: u64) -> usize
     requires { ⌜ length (resultHead transaction n) ≤ length (now answer) ⌝ }
     ensures { λ r. ⌜ (r ≡ length (resultHead transaction n)) × (now (answer .exit) ≡ put (now (answer .entry)) 0 (resultHead transaction n)) ⌝ }
 {

@@ -1,0 +1,4 @@
+pub mod Served
+pub mod Cases
+pub mod Laws
+pub mod Same
