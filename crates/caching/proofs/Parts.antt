@@ -1,22 +1,14 @@
--- What an exported lookup, invalidation, push or planning hands out, by the answer of the call below it. Assumes nothing.
+-- What an exported lookup hands out, by the answer of the call below it. Assumes nothing.
 use mathlib.Core.Path.{_≡_, refl, sym, ap, _∙_, subst}
 use Prim.Native.Nat.{ℕ, _+_, _-_, _≤_}
 use native.Mathlib.Omega.{arith}
-use mathlib.Core.List.{List}
 use lib.ListN.{length}
 use Rattle.buffer.specs.Same.{Bytes}
 use Rattle.buffer.specs.Part.{part, length-part}
-use Rattle.statistics.specs.declared.Statistics.{Statistics}
-use Rattle.arena.specs.Sequence.{Held}
 use Rattle.single_calls.specs.declared.Found.{Found}
 use Rattle.single_calls.specs.declared.Found.the-variants.{Hit, Miss, Denied}
-use Rattle.single_calls.specs.declared.LookedUp.{LookedUp}
-use Rattle.single_calls.specs.declared.Invalidated.{Invalidated}
-use Rattle.single_calls.specs.Single.{Return}
-use Rattle.single_calls.specs.Answers.{countsOf, holding, foundNumber, foundValue, foundPlace, FoundIn, LookupLeft, InvalidationLeft}
-use Rattle.cache_manager.specs.declared.CachedPipeline.{CachedPipeline}
-use Rattle.cache_manager.specs.Pipeline.{Left, Leaves}
-use Rattle.caching.specs.Exported.{statisticsIn, countsIn, flagOf, bytesOf, lookupReturn, startOf, servedBytes}
+use Rattle.single_calls.specs.Answers.{foundNumber, foundValue, foundPlace, FoundIn}
+use Rattle.caching.specs.Exported.{flagOf, bytesOf, lookupReturn, startOf, servedBytes}
 
 -- ---- a lookup's answer
 
@@ -65,18 +57,3 @@ part-there s u x f e n w =
 pub part-at : (i j x y n : ℕ) (u bs : Bytes) → i ≡ j → y ≡ i + x → i + length bs ≤ n → bs ≡ part u i (length bs)
     → (y ≡ j + x) × (j + length bs ≤ n) × (bs ≡ part u j (length bs))
 part-at i j x y n u bs e a b c = subst (λ (k : ℕ). (y ≡ k + x) × (k + length bs ≤ n) × (bs ≡ part u k (length bs))) e (a, b, c)
-
--- ---- the counts given by value are those of the record
-
-module _ (call : Held → Return) (s u : Bytes) (l : List ℕ) (was : Statistics) (e : was ≡ statisticsIn l) (next : ℕ) where
-  pub lookup-as : {at : ℕ} (r : LookedUp) → LookupLeft (call (holding s (countsOf was) next)) at u r
-      → LookupLeft (call (holding s (countsIn l) next)) at u r
-  lookup-as {at} r w = subst (λ (z : Statistics). LookupLeft (call (holding s (countsOf z) next)) at u r) e w
-
-  pub invalidation-as : (r : Invalidated) → InvalidationLeft (call (holding s (countsOf was) next)) u r → InvalidationLeft (call (holding s (countsIn l) next)) u r
-  invalidation-as r w = subst (λ (z : Statistics). InvalidationLeft (call (holding s (countsOf z) next)) u r) e w
-
--- so for planning
-pub planned-as : (call : Held → Left) (s u d f : Bytes) (l : List ℕ) (was : Statistics) → was ≡ statisticsIn l → (r : CachedPipeline)
-    → ((next : ℕ) → Leaves (call (holding s (countsOf was) next)) u d f r) → (next : ℕ) → Leaves (call (holding s (countsIn l) next)) u d f r
-planned-as call s u d f l was e r w next = subst (λ (z : Statistics). Leaves (call (holding s (countsOf z) next)) u d f r) e (w next)

@@ -1,13 +1,11 @@
 -- What the exported functions return and leave, from what the calls below them return. Numbers and bytes alone cross the border. Assumes nothing: these are
 -- definitions.
 use Prim.Native.Nat.{ℕ, _-_}
-use mathlib.Core.List.{List, [], _∷_}
+use mathlib.Core.List.{[]}
 use mathlib.Core.Option.{Option, none, some}
-use lib.ListN.{getD}
 use Rattle.buffer.specs.Same.{Bytes}
 use Rattle.buffer.specs.Part.{part}
 use Rattle.book.specs.Book.{Counts, lookup, store, invalidate}
-use Rattle.statistics.specs.declared.Statistics.{Statistics}
 use Rattle.single_calls.specs.Single.{noCause, Return, singleCall}
 use Rattle.single_calls.specs.Answers.{holding}
 use Rattle.single_calls.specs.declared.NewCache.{NewCache}
@@ -23,17 +21,6 @@ use Rattle.caching.specs.declared.RedisCacheLookup.{RedisCacheLookup}
 abbrev pub setupReturn : NewCache → RedisCacheSetup
 setupReturn (Fresh epoch next) = record { cause = noCause; epoch = epoch; next = next }
 setupReturn (NotSetUp n) = record { cause = n; epoch = 0; next = 0 }
-
--- ---- the counts record in the caller's hands: hit, miss, invalidate
-
-abbrev pub statisticsIn : List ℕ → Statistics
-statisticsIn l = record { hit = getD l 0 0; miss = getD l 1 0; invalidate = getD l 2 0 }
-
-abbrev pub countsIn : List ℕ → Counts
-countsIn l = record { hits = getD l 0 0; misses = getD l 1 0; invalidates = getD l 2 0 }
-
-abbrev pub countsList : Counts → List ℕ
-countsList c = c .hits ∷ c .misses ∷ c .invalidates ∷ []
 
 -- ---- lookup
 
@@ -64,14 +51,14 @@ servedBytes s (Hit from to) = part s from (to - from)
 servedBytes s Miss = []
 servedBytes s (Denied n) = []
 
--- ---- the single calls of these arguments, by a caller who holds the arena s and, where the call takes it, the counts record l. What a call is not given, the
--- next number and a store's counts, may be any
+-- ---- the single calls of these arguments, by a caller who holds the arena s and these counts. What a call is not given, the next number and a store's counts,
+-- may be any
 
-abbrev pub lookupBy : ℕ → ℕ → ℕ → ℕ → ℕ → Bytes → Bytes → Bytes → List ℕ → ℕ → Return
-lookupBy size mode ttl clock epoch key command s l next = singleCall size mode ttl (lookup key command clock epoch) (holding s (countsIn l) next)
+abbrev pub lookupBy : ℕ → ℕ → ℕ → ℕ → ℕ → Bytes → Bytes → Bytes → Counts → ℕ → Return
+lookupBy size mode ttl clock epoch key command s lent next = singleCall size mode ttl (lookup key command clock epoch) (holding s lent next)
 
 abbrev pub storeBy : ℕ → ℕ → ℕ → ℕ → Bytes → Bytes → Bytes → ℕ → Bytes → Counts → ℕ → Return
 storeBy size mode ttl epoch key command value expiry s lent next = singleCall size mode ttl (store key command value expiry epoch) (holding s lent next)
 
-abbrev pub invalidateBy : ℕ → ℕ → ℕ → Bytes → Bytes → List ℕ → ℕ → Return
-invalidateBy size mode ttl key s l next = singleCall size mode ttl (invalidate key) (holding s (countsIn l) next)
+abbrev pub invalidateBy : ℕ → ℕ → ℕ → Bytes → Bytes → Counts → ℕ → Return
+invalidateBy size mode ttl key s lent next = singleCall size mode ttl (invalidate key) (holding s lent next)

@@ -1,3 +1,4 @@
+pub mod Added
 pub mod Exported
 pub mod Place
 pub mod Pushed

@@ -1,11 +1,14 @@
 -- A planning as the exported function is given it, and what is returned. Numbers and bytes alone cross the border. Assumes nothing: these are definitions.
+use mathlib.Core.Path.{_≡_}
 use Prim.Native.Nat.{ℕ}
-use mathlib.Core.List.{List}
 use Rattle.buffer.specs.Same.{Bytes}
-use Rattle.single_calls.specs.Answers.{holding}
+use Rattle.book.specs.Book.{Counts}
+use Rattle.statistics.specs.declared.Statistics.{Statistics}
+use Rattle.statistics.specs.Counts.{more}
+use Rattle.single_calls.specs.Answers.{countsOf, holding}
 use Rattle.cache_manager.specs.Pipeline.{Returned, refusedAs, wrongAt, wrote, causeOf, Left, planCall}
-use Rattle.caching.specs.Exported.{countsIn}
 use Rattle.caching.specs.declared.plan_call.RedisCachePlan.{RedisCachePlan}
+use Rattle.caching.specs.declared.plan_call.PlanAdded.{PlanAdded}
 
 -- a refusal: 01's number, and cause 2's offset; nothing is written, and nothing is sent
 abbrev pub refusedReturn : ℕ → ℕ → RedisCachePlan
@@ -17,7 +20,17 @@ planReturn (refusedAs n) = refusedReturn (causeOf (refusedAs n)) 0
 planReturn (wrongAt o) = refusedReturn (causeOf (wrongAt o)) o
 planReturn (wrote n m c) = record { cause = causeOf (wrote n m c); at = 0; plan = n; send = m; offset = c .offset; count = c .count }
 
--- the planning of the call record with the plan buffer d and the send buffer f, by a caller who holds the arena s and the counts record l; the next number,
+-- the planning of the call record with the plan buffer d and the send buffer f, by a caller who holds the arena s and these counts; the next number,
 -- which it is not given, may be any
-abbrev pub planBy : ℕ → ℕ → ℕ → ℕ → ℕ → Bytes → Bytes → Bytes → Bytes → List ℕ → ℕ → Left
-planBy size mode ttl clock epoch bytes d f s l next = planCall size mode ttl clock epoch bytes d f (holding s (countsIn l) next)
+abbrev pub planBy : ℕ → ℕ → ℕ → ℕ → ℕ → Bytes → Bytes → Bytes → Bytes → Counts → ℕ → Left
+planBy size mode ttl clock epoch bytes d f s lent next = planCall size mode ttl clock epoch bytes d f (holding s lent next)
+
+-- a planning that was lent the record `was` returned r and left the arena s, the plan buffer d and the send buffer f, as x says; and the record increased by
+-- what
+-- is added is what x says
+pub record PlanLeft (x : Left) (s d f : Bytes) (was : Statistics) (r : PlanAdded) : Type 0 where
+  pub answer : r .answer ≡ planReturn (x .returned)
+  pub arena : s ≡ x .held .arena
+  pub counts : countsOf (more was (r .adds)) ≡ x .held .counts
+  pub plan : d ≡ x .plan
+  pub send : f ≡ x .send

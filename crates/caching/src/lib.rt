@@ -8,6 +8,7 @@ pub mod resolve_call;
 
 use single_calls::Answered;
 use single_calls::Found;
+use single_calls::Invalidated;
 use single_calls::NewCache;
 use statistics::CacheStatistics;
 use statistics::Statistics;
@@ -18,10 +19,12 @@ ghost use Rattle.buffer.specs.Part.{part};
 ghost use Rattle.config.specs.Config.{checked};
 ghost use Rattle.statistics.specs.Counts.{reading};
 ghost use Rattle.book.specs.Book.{Counts};
+ghost use Rattle.book.specs.Counts.{Counted};
 ghost use Rattle.single_calls.specs.Setup.{setUp, freshArena};
 ghost use Rattle.single_calls.specs.Answers.{countsOf, answerNumber, FoundIn};
+ghost use Rattle.caching.specs.Added.{noneYet, addedBy, AddedLeft, LookupGiven};
 ghost use Rattle.caching.specs.Place.{placeBy};
-ghost use Rattle.caching.specs.Exported.{setupReturn, statisticsIn, countsList, flagOf, bytesOf, lookupReturn, startOf, servedBytes, lookupBy, storeBy, invalidateBy};
+ghost use Rattle.caching.specs.Exported.{setupReturn, flagOf, bytesOf, lookupReturn, startOf, servedBytes, lookupBy, storeBy, invalidateBy};
 
 // What setup returns: 01's number of the cause that refuses it, or 0; the epoch taken; the next epoch number.
 #[repr(C)]
@@ -36,6 +39,18 @@ pub struct RedisCacheSetup {
 pub struct RedisCacheLookup {
     pub cause: u64,
     pub hit: u64,
+}
+
+// What an invalidation or a push comes to: 01's number of the cause that refuses it, or 0, and what it adds to the counts.
+pub struct Added {
+    pub cause: u64,
+    pub adds: Statistics,
+}
+
+// What a lookup comes to: what is returned, and what it adds to the counts.
+pub struct LookupAdded {
+    pub answer: RedisCacheLookup,
+    pub adds: Statistics,
 }
 
 fn setup_return(cache: NewCache) -> RedisCacheSetup
@@ -81,22 +96,27 @@ fn lookup_return(found: Found) -> RedisCacheLookup
     }
 }
 
-// The counts record by value.
-fn counts_in(counts: &[u64; 3]) -> Statistics
-    ensures { λ r. ⌜ r ≡ statisticsIn (now (counts .entry)) ⌝ }
+// Counts of which nothing was counted yet.
+fn none_yet() -> Statistics
+    ensures { λ r. ⌜ r ≡ noneYet ⌝ }
 {
     Statistics {
-        hit: counts[0],
-        miss: counts[1],
-        invalidate: counts[2],
+        hit: 0,
+        miss: 0,
+        invalidate: 0,
     }
 }
 
-// The counts put into the record.
-fn put_counts(counts: &mut [u64; 3], new: Statistics)
-    ensures { λ _. ⌜ now (counts .exit) ≡ countsList (countsOf new) ⌝ }
+// What a call that began with no counts comes to.
+fn comes_to(done: Invalidated) -> Added
+    ensures { λ r. ⌜ r ≡ addedBy done ⌝ }
 {
-    *counts = [new.hit, new.miss, new.invalidate];
+    let answer = done.answer;
+    let adds = done.counts;
+    Added {
+        cause: answer_number(answer),
+        adds,
+    }
 }
 
 // The bytes that a lookup serves, as a part of the arena.
@@ -145,6 +165,13 @@ pub extern "C" fn redis_cache_store(
     answer_number(single_calls::store(arena, size, mode, ttl, epoch, key, command, value, expiry))
 }
 
+// Drops the key's item, and tells what that adds to the counts.
+fn invalidate_counting(arena: &mut [u8], size: u64, mode: u64, ttl: u64, key: &[u8]) -> Added
+    ensures { λ r. ⌜ ((was : Statistics) (next : ℕ) → Counted (countsOf was) → AddedLeft (invalidateBy size mode ttl (now (key .entry)) (now (arena .entry)) (countsOf was) next) (now (arena .exit)) was r) ⌝ }
+{
+    comes_to(single_calls::invalidate(arena, size, mode, ttl, key, none_yet()))
+}
+
 // Drops the key's item.
 #[no_mangle]
 pub extern "C" fn redis_cache_invalidate(
@@ -153,17 +180,45 @@ pub extern "C" fn redis_cache_invalidate(
     mode: u64,
     ttl: u64,
     key: &[u8],
-    counts: &mut [u64; 3],
+    counts: &mut Statistics,
 ) -> u64
-    ensures answer { λ r. ⌜ ((next : ℕ) → r ≡ invalidateBy size mode ttl (now (key .entry)) (now (arena .entry)) (now (counts .entry)) next .cause) ⌝ }
-    ensures bytes { λ _. ⌜ ((next : ℕ) → now (arena .exit) ≡ invalidateBy size mode ttl (now (key .entry)) (now (arena .entry)) (now (counts .entry)) next .held .arena) ⌝ }
-    ensures counts { λ _. ⌜ ((next : ℕ) → now (counts .exit) ≡ countsList (invalidateBy size mode ttl (now (key .entry)) (now (arena .entry)) (now (counts .entry)) next .held .counts)) ⌝ }
+    ensures answer { λ r. ⌜ ((next : ℕ) → r ≡ invalidateBy size mode ttl (now (key .entry)) (now (arena .entry)) (countsOf (now (counts .entry))) next .cause) ⌝ }
+    ensures bytes { λ _. ⌜ ((next : ℕ) → now (arena .exit) ≡ invalidateBy size mode ttl (now (key .entry)) (now (arena .entry)) (countsOf (now (counts .entry))) next .held .arena) ⌝ }
+    ensures counts { λ _. ⌜ ((next : ℕ) → countsOf (now (counts .exit)) ≡ invalidateBy size mode ttl (now (key .entry)) (now (arena .entry)) (countsOf (now (counts .entry))) next .held .counts) ⌝ }
 {
-    let was = counts_in(counts);
-    let r = single_calls::invalidate(arena, size, mode, ttl, key, was);
-    let answer = r.answer;
-    put_counts(counts, r.counts);
-    answer_number(answer)
+    let r = invalidate_counting(arena, size, mode, ttl, key);
+    statistics::increase(counts, r.adds);
+    r.cause
+}
+
+// Looks the command key's value up under the key, hands out the value and the arena, and tells what that adds to the counts.
+fn lookup_counting<'a>(
+    arena: &'a mut [u8],
+    size: u64,
+    mode: u64,
+    ttl: u64,
+    clock: u64,
+    epoch: u64,
+    key: &[u8],
+    command: &[u8],
+    value: &mut &'a [u8],
+    whole: &mut &'a [u8],
+) -> LookupAdded
+    ensures given { λ r. ⌜ ((was : Statistics) (next : ℕ) → Counted (countsOf was) → LookupGiven (lookupBy size mode ttl clock epoch (now (key .entry)) (now (command .entry)) (now (arena .entry)) (countsOf was) next) (now (now (value .exit))) (now (now (whole .exit))) was r) ⌝ }
+    ensures is_part { λ _. ⌜ ((lent : Counts) (next : ℕ) → (now (value .exit) .ptr .0 ≡ arena .entry .ptr .0) × (now (value .exit) .ptr .1 ≡ placeBy size mode ttl clock epoch (now (key .entry)) (now (command .entry)) (now (arena .entry)) lent next + arena .entry .ptr .1) × (placeBy size mode ttl clock epoch (now (key .entry)) (now (command .entry)) (now (arena .entry)) lent next + length (now (now (value .exit))) ≤ length (now (arena .entry))) × (now (now (value .exit)) ≡ part (now (now (whole .exit))) (placeBy size mode ttl clock epoch (now (key .entry)) (now (command .entry)) (now (arena .entry)) lent next) (length (now (now (value .exit)))))) ⌝ }
+    ensures is_arena { λ _. ⌜ now (whole .exit) .ptr ≡ arena .entry .ptr ⌝ }
+{
+    let none = none_yet();
+    let r = single_calls::lookup(arena, size, mode, ttl, clock, epoch, key, command, none);
+    let found = r.found;
+    let adds = r.counts;
+    let t = &arena[..];
+    *value = served(t, found);
+    *whole = t;
+    LookupAdded {
+        answer: lookup_return(found),
+        adds,
+    }
 }
 
 // Looks the command key's value up under the key. Through `value` the value comes back, a part of the lent arena, and through `whole` the arena as the
@@ -178,31 +233,37 @@ pub extern "C" fn redis_cache_lookup<'a>(
     epoch: u64,
     key: &[u8],
     command: &[u8],
-    counts: &mut [u64; 3],
+    counts: &mut Statistics,
     value: &mut &'a [u8],
     whole: &mut &'a [u8],
 ) -> RedisCacheLookup
-    ensures answer { λ r. ⌜ ((next : ℕ) → (r .cause ≡ lookupBy size mode ttl clock epoch (now (key .entry)) (now (command .entry)) (now (arena .entry)) (now (counts .entry)) next .cause) × (r .hit ≡ flagOf (lookupBy size mode ttl clock epoch (now (key .entry)) (now (command .entry)) (now (arena .entry)) (now (counts .entry)) next .value))) ⌝ }
-    ensures served { λ _. ⌜ ((next : ℕ) → now (now (value .exit)) ≡ bytesOf (lookupBy size mode ttl clock epoch (now (key .entry)) (now (command .entry)) (now (arena .entry)) (now (counts .entry)) next .value)) ⌝ }
+    ensures answer { λ r. ⌜ ((next : ℕ) → (r .cause ≡ lookupBy size mode ttl clock epoch (now (key .entry)) (now (command .entry)) (now (arena .entry)) (countsOf (now (counts .entry))) next .cause) × (r .hit ≡ flagOf (lookupBy size mode ttl clock epoch (now (key .entry)) (now (command .entry)) (now (arena .entry)) (countsOf (now (counts .entry))) next .value))) ⌝ }
+    ensures served { λ _. ⌜ ((next : ℕ) → now (now (value .exit)) ≡ bytesOf (lookupBy size mode ttl clock epoch (now (key .entry)) (now (command .entry)) (now (arena .entry)) (countsOf (now (counts .entry))) next .value)) ⌝ }
     ensures is_part { λ _. ⌜ ((lent : Counts) (next : ℕ) → (now (value .exit) .ptr .0 ≡ arena .entry .ptr .0) × (now (value .exit) .ptr .1 ≡ placeBy size mode ttl clock epoch (now (key .entry)) (now (command .entry)) (now (arena .entry)) lent next + arena .entry .ptr .1) × (placeBy size mode ttl clock epoch (now (key .entry)) (now (command .entry)) (now (arena .entry)) lent next + length (now (now (value .exit))) ≤ length (now (arena .entry))) × (now (now (value .exit)) ≡ part (now (now (whole .exit))) (placeBy size mode ttl clock epoch (now (key .entry)) (now (command .entry)) (now (arena .entry)) lent next) (length (now (now (value .exit)))))) ⌝ }
     ensures is_arena { λ _. ⌜ now (whole .exit) .ptr ≡ arena .entry .ptr ⌝ }
-    ensures bytes { λ _. ⌜ ((next : ℕ) → now (now (whole .exit)) ≡ lookupBy size mode ttl clock epoch (now (key .entry)) (now (command .entry)) (now (arena .entry)) (now (counts .entry)) next .held .arena) ⌝ }
-    ensures counts { λ _. ⌜ ((next : ℕ) → now (counts .exit) ≡ countsList (lookupBy size mode ttl clock epoch (now (key .entry)) (now (command .entry)) (now (arena .entry)) (now (counts .entry)) next .held .counts)) ⌝ }
+    ensures bytes { λ _. ⌜ ((next : ℕ) → now (now (whole .exit)) ≡ lookupBy size mode ttl clock epoch (now (key .entry)) (now (command .entry)) (now (arena .entry)) (countsOf (now (counts .entry))) next .held .arena) ⌝ }
+    ensures counts { λ _. ⌜ ((next : ℕ) → countsOf (now (counts .exit)) ≡ lookupBy size mode ttl clock epoch (now (key .entry)) (now (command .entry)) (now (arena .entry)) (countsOf (now (counts .entry))) next .held .counts) ⌝ }
 {
-    let was = counts_in(counts);
-    let r = single_calls::lookup(arena, size, mode, ttl, clock, epoch, key, command, was);
-    let found = r.found;
-    put_counts(counts, r.counts);
-    let t = &arena[..];
-    *value = served(t, found);
-    *whole = t;
-    lookup_return(found)
+    let r = lookup_counting(
+        arena,
+        size,
+        mode,
+        ttl,
+        clock,
+        epoch,
+        key,
+        command,
+        value,
+        whole,
+    );
+    statistics::increase(counts, r.adds);
+    r.answer
 }
 
 // The counts at this moment.
 #[no_mangle]
-pub extern "C" fn redis_cache_counts(counts: &[u64; 3]) -> CacheStatistics
-    ensures { λ r. ⌜ r ≡ reading (statisticsIn (now (counts .entry))) ⌝ }
+pub extern "C" fn redis_cache_counts(counts: &Statistics) -> CacheStatistics
+    ensures { λ r. ⌜ r ≡ reading (now (counts .entry)) ⌝ }
 {
-    CacheStatistics::from(counts_in(counts))
+    CacheStatistics::from(*counts)
 }

@@ -1,13 +1,14 @@
 // Planning through C linkage, thin over `cache_manager::get_cached_pipeline`. include/redis_cache.h says what each parameter means. Assumes nothing of the
 // caller.
-use crate::counts_in;
-use crate::put_counts;
+use crate::none_yet;
 use cache_manager::Pipelined;
+use statistics::Statistics;
 ghost use mathlib.Core.Path.{_≡_};
 ghost use Prim.Native.Nat.{ℕ};
+ghost use Rattle.book.specs.Counts.{Counted};
+ghost use Rattle.single_calls.specs.Answers.{countsOf};
 ghost use Rattle.cache_manager.specs.Pipeline.{returnedOf};
-ghost use Rattle.caching.specs.Exported.{countsList};
-ghost use Rattle.caching.specs.Planned.{refusedReturn, planReturn, planBy};
+ghost use Rattle.caching.specs.Planned.{refusedReturn, planReturn, planBy, PlanLeft};
 
 // What planning returns: 01's number of the cause that refuses it, or 0; cause 2's offset; how many bytes of the plan buffer and of the send buffer are
 // written; the response counts.
@@ -19,6 +20,12 @@ pub struct RedisCachePlan {
     pub send: u64,
     pub offset: u64,
     pub count: u64,
+}
+
+// What a planning comes to: what is returned, and what it adds to the counts.
+pub struct PlanAdded {
+    pub answer: RedisCachePlan,
+    pub adds: Statistics,
 }
 
 // A refusal: its number, and the offset where there is one.
@@ -52,9 +59,8 @@ fn plan_return(answer: Pipelined) -> RedisCachePlan
     }
 }
 
-// Looks the record's commands up, and writes the plan and what is to be sent.
-#[no_mangle]
-pub extern "C" fn redis_cache_plan(
+// Looks the record's commands up, writes the plan and what is to be sent, and tells what that adds to the counts.
+fn plan_counting(
     arena: &mut [u8],
     size: u64,
     mode: u64,
@@ -62,17 +68,12 @@ pub extern "C" fn redis_cache_plan(
     clock: u64,
     epoch: u64,
     bytes: &[u8],
-    counts: &mut [u64; 3],
     plan: &mut [u8],
     send: &mut [u8],
-) -> RedisCachePlan
-    ensures answer { λ r. ⌜ ((next : ℕ) → r ≡ planReturn (planBy size mode ttl clock epoch (now (bytes .entry)) (now (plan .entry)) (now (send .entry)) (now (arena .entry)) (now (counts .entry)) next .returned)) ⌝ }
-    ensures arena { λ _. ⌜ ((next : ℕ) → now (arena .exit) ≡ planBy size mode ttl clock epoch (now (bytes .entry)) (now (plan .entry)) (now (send .entry)) (now (arena .entry)) (now (counts .entry)) next .held .arena) ⌝ }
-    ensures counts { λ _. ⌜ ((next : ℕ) → now (counts .exit) ≡ countsList (planBy size mode ttl clock epoch (now (bytes .entry)) (now (plan .entry)) (now (send .entry)) (now (arena .entry)) (now (counts .entry)) next .held .counts)) ⌝ }
-    ensures plan { λ _. ⌜ ((next : ℕ) → now (plan .exit) ≡ planBy size mode ttl clock epoch (now (bytes .entry)) (now (plan .entry)) (now (send .entry)) (now (arena .entry)) (now (counts .entry)) next .plan) ⌝ }
-    ensures send { λ _. ⌜ ((next : ℕ) → now (send .exit) ≡ planBy size mode ttl clock epoch (now (bytes .entry)) (now (plan .entry)) (now (send .entry)) (now (arena .entry)) (now (counts .entry)) next .send) ⌝ }
+) -> PlanAdded
+    ensures { λ r. ⌜ ((was : Statistics) (next : ℕ) → Counted (countsOf was) → PlanLeft (planBy size mode ttl clock epoch (now (bytes .entry)) (now (plan .entry)) (now (send .entry)) (now (arena .entry)) (countsOf was) next) (now (arena .exit)) (now (plan .exit)) (now (send .exit)) was r) ⌝ }
 {
-    let was = counts_in(counts);
+    let none = none_yet();
     let r = cache_manager::get_cached_pipeline(
         arena,
         size,
@@ -83,9 +84,37 @@ pub extern "C" fn redis_cache_plan(
         bytes,
         plan,
         send,
-        was,
+        none,
     );
     let answer = r.answer;
-    put_counts(counts, r.counts);
-    plan_return(answer)
+    let adds = r.counts;
+    PlanAdded {
+        answer: plan_return(answer),
+        adds,
+    }
+}
+
+// Looks the record's commands up, and writes the plan and what is to be sent.
+#[no_mangle]
+pub extern "C" fn redis_cache_plan(
+    arena: &mut [u8],
+    size: u64,
+    mode: u64,
+    ttl: u64,
+    clock: u64,
+    epoch: u64,
+    bytes: &[u8],
+    counts: &mut Statistics,
+    plan: &mut [u8],
+    send: &mut [u8],
+) -> RedisCachePlan
+    ensures answer { λ r. ⌜ ((next : ℕ) → r ≡ planReturn (planBy size mode ttl clock epoch (now (bytes .entry)) (now (plan .entry)) (now (send .entry)) (now (arena .entry)) (countsOf (now (counts .entry))) next .returned)) ⌝ }
+    ensures arena { λ _. ⌜ ((next : ℕ) → now (arena .exit) ≡ planBy size mode ttl clock epoch (now (bytes .entry)) (now (plan .entry)) (now (send .entry)) (now (arena .entry)) (countsOf (now (counts .entry))) next .held .arena) ⌝ }
+    ensures counts { λ _. ⌜ ((next : ℕ) → countsOf (now (counts .exit)) ≡ planBy size mode ttl clock epoch (now (bytes .entry)) (now (plan .entry)) (now (send .entry)) (now (arena .entry)) (countsOf (now (counts .entry))) next .held .counts) ⌝ }
+    ensures plan { λ _. ⌜ ((next : ℕ) → now (plan .exit) ≡ planBy size mode ttl clock epoch (now (bytes .entry)) (now (plan .entry)) (now (send .entry)) (now (arena .entry)) (countsOf (now (counts .entry))) next .plan) ⌝ }
+    ensures send { λ _. ⌜ ((next : ℕ) → now (send .exit) ≡ planBy size mode ttl clock epoch (now (bytes .entry)) (now (plan .entry)) (now (send .entry)) (now (arena .entry)) (countsOf (now (counts .entry))) next .send) ⌝ }
+{
+    let r = plan_counting(arena, size, mode, ttl, clock, epoch, bytes, plan, send);
+    statistics::increase(counts, r.adds);
+    r.answer
 }

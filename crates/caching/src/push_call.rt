@@ -1,11 +1,21 @@
 // A push through C linkage, thin over `push::handle_push`. include/redis_cache.h says what each parameter means. Assumes nothing of the caller.
-use crate::answer_number;
-use crate::counts_in;
-use crate::put_counts;
+use crate::Added;
+use crate::comes_to;
+use crate::none_yet;
+use statistics::Statistics;
 ghost use mathlib.Core.Path.{_≡_};
 ghost use Prim.Native.Nat.{ℕ};
-ghost use Rattle.caching.specs.Exported.{countsList};
+ghost use Rattle.book.specs.Counts.{Counted};
+ghost use Rattle.single_calls.specs.Answers.{countsOf};
+ghost use Rattle.caching.specs.Added.{AddedLeft};
 ghost use Rattle.caching.specs.Pushed.{pushBy};
+
+// Does what a push asks for, and tells what that adds to the counts.
+fn push_counting(arena: &mut [u8], size: u64, mode: u64, ttl: u64, bytes: &[u8]) -> Added
+    ensures { λ r. ⌜ ((was : Statistics) (next : ℕ) → Counted (countsOf was) → AddedLeft (pushBy size mode ttl (now (bytes .entry)) (now (arena .entry)) (countsOf was) next) (now (arena .exit)) was r) ⌝ }
+{
+    comes_to(push::handle_push(arena, size, mode, ttl, bytes, none_yet()))
+}
 
 // Does what a push asks for.
 #[no_mangle]
@@ -15,15 +25,13 @@ pub extern "C" fn redis_cache_push(
     mode: u64,
     ttl: u64,
     bytes: &[u8],
-    counts: &mut [u64; 3],
+    counts: &mut Statistics,
 ) -> u64
-    ensures answer { λ r. ⌜ ((next : ℕ) → r ≡ pushBy size mode ttl (now (bytes .entry)) (now (arena .entry)) (now (counts .entry)) next .cause) ⌝ }
-    ensures arena { λ _. ⌜ ((next : ℕ) → now (arena .exit) ≡ pushBy size mode ttl (now (bytes .entry)) (now (arena .entry)) (now (counts .entry)) next .held .arena) ⌝ }
-    ensures counts { λ _. ⌜ ((next : ℕ) → now (counts .exit) ≡ countsList (pushBy size mode ttl (now (bytes .entry)) (now (arena .entry)) (now (counts .entry)) next .held .counts)) ⌝ }
+    ensures answer { λ r. ⌜ ((next : ℕ) → r ≡ pushBy size mode ttl (now (bytes .entry)) (now (arena .entry)) (countsOf (now (counts .entry))) next .cause) ⌝ }
+    ensures arena { λ _. ⌜ ((next : ℕ) → now (arena .exit) ≡ pushBy size mode ttl (now (bytes .entry)) (now (arena .entry)) (countsOf (now (counts .entry))) next .held .arena) ⌝ }
+    ensures counts { λ _. ⌜ ((next : ℕ) → countsOf (now (counts .exit)) ≡ pushBy size mode ttl (now (bytes .entry)) (now (arena .entry)) (countsOf (now (counts .entry))) next .held .counts) ⌝ }
 {
-    let was = counts_in(counts);
-    let r = push::handle_push(arena, size, mode, ttl, bytes, was);
-    let answer = r.answer;
-    put_counts(counts, r.counts);
-    answer_number(answer)
+    let r = push_counting(arena, size, mode, ttl, bytes);
+    statistics::increase(counts, r.adds);
+    r.cause
 }

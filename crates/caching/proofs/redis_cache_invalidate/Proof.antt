@@ -1,61 +1,26 @@
--- `caching::redis_cache_invalidate` meets its contract. Assumes nothing.
-use mathlib.Core.Path.{ap, _∙_}
-use Prim.Native.Nat.{ℕ}
-use denote.Ref.{now}
-use Rattle.book.specs.Book.{invalidate}
-use Rattle.single_calls.specs.Single.{singleCall}
-use Rattle.single_calls.specs.Answers.{holding, InvalidationLeft}
-use Rattle.caching.specs.Exported.{countsIn, countsList}
-use Rattle.caching.proofs.Parts.{invalidation-as}
-use borrow.Author.Needs.{needs}
-use Rattle.caching.proofs.redis_cache_invalidate.Statement.{statement}
-use Rattle.caching.proofs.redis_cache_invalidate.Tie as tie
-use Rattle.caching.proofs.redis_cache_invalidate.Reads as reads
-use Rattle.caching.proofs.redis_cache_invalidate.Lts as lts
-use Rattle.caching.proofs.answer_number.Reads as answer-number-reads
-use Rattle.caching.proofs.counts_in.Reads as counts-in-reads
-use Rattle.caching.proofs.put_counts.Reads as put-counts-reads
-use Rattle.single_calls.proofs.invalidate.Reads as invalidate-reads
+-- `caching::redis_cache_invalidate` meets its contract: the walk of Lent.antt over `invalidate_counting`. Assumes nothing.
+use denote.Triple.Spec.{tripleOf}
+use denote.Triple.Table.{entered, cited}
+use contract.Running.{givenOf, tables, tablesOf}
+use Rattle.statistics.proofs.increase.Symbol as increase-def
+use Rattle.statistics.proofs.increase.Symbol.{name as #increase}
+use Rattle.statistics.proofs.increase.Met as increase-thm
+use Rattle.caching.specs.Exported.{invalidateBy}
+use Rattle.caching.proofs.Increase.{Increase}
+use Rattle.caching.proofs.Lent.{Work, meets}
+use Rattle.caching.proofs.invalidate_counting.Symbol as counting-def
+use Rattle.caching.proofs.invalidate_counting.Symbol.{name as #counting}
+use Rattle.caching.proofs.invalidate_counting.Met as counting-thm
+use Rattle.caching.proofs.redis_cache_invalidate.Key.{name as #lent}
+use Rattle.caching.proofs.redis_cache_invalidate as lent
+use Rattle.caching.proofs.redis_cache_invalidate.Statement as stated
+use Rattle.caching.proofs.redis_cache_invalidate.Code as code
 
--- src/lib.rt:153:9
-counts-in-requires : tie.Need-counts-in-requires
-counts-in-requires c κs = search needs
-
--- src/lib.rt:154:9
-invalidate-requires : tie.Need-invalidate-requires
-invalidate-requires c κs = search needs
-
--- src/lib.rt:156:5
-put-counts-requires : tie.Need-put-counts-requires
-put-counts-requires c κs = search needs
-
--- src/lib.rt:157:5
-answer-number-requires : tie.Need-answer-number-requires
-answer-number-requires c κs = search needs
-
--- src/lib.rt:140:1
-same-length : tie.Need-same-length
-same-length c = search needs
-
--- src/lib.rt:140:1
-returns : tie.Need-returns
-returns c =
-    let a = c .before .before .before .before .before .before .before .before .before .before .before .args in
-    let l : (next : ℕ)
-    → InvalidationLeft (singleCall (a .size) (a .mode) (a .ttl) (invalidate (now (a .key))) (holding (now (a .arena)) (countsIn (now (a .counts))) next))
-    (c .before .before .before .before .before .invalidate .last .0) (c .before .before .before .before .before .invalidate .result) =
-    λ next. invalidation-as (singleCall (a .size) (a .mode) (a .ttl) (invalidate (now (a .key)))) _ _ (now (a .counts)) _ (c .before .before .before .before .before .before .before .counts-in .ensures) next _ (c .before .before .before .before .before .invalidate .ensures next) in (
-      λ next. c .answer-number .ensures ∙ l next .cause,
-      (λ next. l next .arena, λ next. c .before .put-counts .ensures ∙ ap countsList (l next .counts)),
-    )
-
-pub redis-cache-invalidate-spec : {M : Type 1} → statement M
-redis-cache-invalidate-spec =
-    tie.close
-    (tie.spec
-    counts-in-requires
-    invalidate-requires
-    put-counts-requires
-    answer-number-requires
-    same-length
-    returns)
+pub redis-cache-invalidate-spec : {M : Type 1} → stated.statement M
+unfolding code.routine tablesOf
+redis-cache-invalidate-spec 𝓤 H 𝓜 𝓖 𝓡 =
+    entered 𝓤 H (tripleOf 𝓤 H (𝓖 .A) lent.signature (lent.spec 𝓤 H (𝓖 .A) (𝓜 .mem) (𝓡 .run)))
+    (tables 𝓤 H 𝓜 𝓡 code.env .C) (tables 𝓤 H 𝓜 𝓡 code.env .Λ) #lent code.function (code.unfolded 𝓤 H 𝓜 𝓡)
+    (meets invalidateBy #counting 𝓤 H (𝓖 .A) (givenOf 𝓤 H 𝓜 𝓖) (tablesOf 𝓤 H 𝓜 (tables 𝓤 H 𝓜 𝓡 code.env))
+    (cited 𝓤 H (Work invalidateBy 𝓤 H (𝓖 .A)) 𝓜 𝓡 code.env #counting counting-def.routine code.calls-caching·invalidate-counting (counting-thm.met 𝓤 H 𝓜 𝓖 𝓡))
+    (cited 𝓤 H (Increase 𝓤 H (𝓖 .A)) 𝓜 𝓡 code.env #increase increase-def.routine code.calls-statistics·increase (increase-thm.met 𝓤 H 𝓜 𝓖 𝓡)))

@@ -1,60 +1,26 @@
--- `caching::push_call::redis_cache_push` meets its contract. Assumes nothing.
-use mathlib.Core.Path.{ap, _∙_}
-use Prim.Native.Nat.{ℕ}
-use denote.Ref.{now}
-use Rattle.push.specs.Push.{pushCall}
-use Rattle.single_calls.specs.Answers.{holding, InvalidationLeft}
-use Rattle.caching.specs.Exported.{countsIn, countsList}
-use Rattle.caching.proofs.Parts.{invalidation-as}
-use borrow.Author.Needs.{needs}
-use Rattle.caching.proofs.push_call.redis_cache_push.Statement.{statement}
-use Rattle.caching.proofs.push_call.redis_cache_push.Tie as tie
-use Rattle.caching.proofs.push_call.redis_cache_push.Reads as reads
-use Rattle.caching.proofs.push_call.redis_cache_push.Lts as lts
-use Rattle.caching.proofs.answer_number.Reads as answer-number-reads
-use Rattle.caching.proofs.counts_in.Reads as counts-in-reads
-use Rattle.caching.proofs.put_counts.Reads as put-counts-reads
-use Rattle.push.proofs.handle_push.Reads as handle-push-reads
+-- `caching::push_call::redis_cache_push` meets its contract: the walk of Lent.antt over `push_counting`. Assumes nothing.
+use denote.Triple.Spec.{tripleOf}
+use denote.Triple.Table.{entered, cited}
+use contract.Running.{givenOf, tables, tablesOf}
+use Rattle.statistics.proofs.increase.Symbol as increase-def
+use Rattle.statistics.proofs.increase.Symbol.{name as #increase}
+use Rattle.statistics.proofs.increase.Met as increase-thm
+use Rattle.caching.specs.Pushed.{pushBy}
+use Rattle.caching.proofs.Increase.{Increase}
+use Rattle.caching.proofs.Lent.{Work, meets}
+use Rattle.caching.proofs.push_call.push_counting.Symbol as counting-def
+use Rattle.caching.proofs.push_call.push_counting.Symbol.{name as #counting}
+use Rattle.caching.proofs.push_call.push_counting.Met as counting-thm
+use Rattle.caching.proofs.push_call.redis_cache_push.Key.{name as #lent}
+use Rattle.caching.proofs.push_call.redis_cache_push as lent
+use Rattle.caching.proofs.push_call.redis_cache_push.Statement as stated
+use Rattle.caching.proofs.push_call.redis_cache_push.Code as code
 
--- src/push_call.rt:24:15
-counts-in-requires : tie.Need-counts-in-requires
-counts-in-requires c κs = search needs
-
--- src/push_call.rt:25:13
-handle-push-requires : tie.Need-handle-push-requires
-handle-push-requires c κs = search needs
-
--- src/push_call.rt:27:5
-put-counts-requires : tie.Need-put-counts-requires
-put-counts-requires c κs = search needs
-
--- src/push_call.rt:28:5
-answer-number-requires : tie.Need-answer-number-requires
-answer-number-requires c κs = search needs
-
--- src/push_call.rt:12:1
-same-length : tie.Need-same-length
-same-length c = search needs
-
--- src/push_call.rt:12:1
-returns : tie.Need-returns
-returns c =
-    let a = c .before .before .before .before .before .before .before .before .before .before .before .args in
-    let l : (next : ℕ)
-    → InvalidationLeft (pushCall (a .size) (a .mode) (a .ttl) (now (a .bytes)) (holding (now (a .arena)) (countsIn (now (a .counts))) next))
-    (c .before .before .before .before .before .handle-push .last .0) (c .before .before .before .before .before .handle-push .result) =
-    λ next. invalidation-as (pushCall (a .size) (a .mode) (a .ttl) (now (a .bytes))) _ _ (now (a .counts)) _ (c .before .before .before .before .before .before .before .counts-in .ensures) next _ (c .before .before .before .before .before .handle-push .ensures next) in (
-      λ next. c .answer-number .ensures ∙ l next .cause,
-      (λ next. l next .arena, λ next. c .before .put-counts .ensures ∙ ap countsList (l next .counts)),
-    )
-
-pub redis-cache-push-spec : {M : Type 1} → statement M
-redis-cache-push-spec =
-    tie.close
-    (tie.spec
-    counts-in-requires
-    handle-push-requires
-    put-counts-requires
-    answer-number-requires
-    same-length
-    returns)
+pub redis-cache-push-spec : {M : Type 1} → stated.statement M
+unfolding code.routine tablesOf
+redis-cache-push-spec 𝓤 H 𝓜 𝓖 𝓡 =
+    entered 𝓤 H (tripleOf 𝓤 H (𝓖 .A) lent.signature (lent.spec 𝓤 H (𝓖 .A) (𝓜 .mem) (𝓡 .run)))
+    (tables 𝓤 H 𝓜 𝓡 code.env .C) (tables 𝓤 H 𝓜 𝓡 code.env .Λ) #lent code.function (code.unfolded 𝓤 H 𝓜 𝓡)
+    (meets pushBy #counting 𝓤 H (𝓖 .A) (givenOf 𝓤 H 𝓜 𝓖) (tablesOf 𝓤 H 𝓜 (tables 𝓤 H 𝓜 𝓡 code.env))
+    (cited 𝓤 H (Work pushBy 𝓤 H (𝓖 .A)) 𝓜 𝓡 code.env #counting counting-def.routine code.calls-caching·push-call·push-counting (counting-thm.met 𝓤 H 𝓜 𝓖 𝓡))
+    (cited 𝓤 H (Increase 𝓤 H (𝓖 .A)) 𝓜 𝓡 code.env #increase increase-def.routine code.calls-statistics·increase (increase-thm.met 𝓤 H 𝓜 𝓖 𝓡)))

@@ -1,0 +1,18 @@
+-- `caching::comes_to` meets its contract. Assumes nothing.
+use borrow.Author.Needs.{needs}
+use Rattle.caching.proofs.comes_to.Statement.{statement}
+use Rattle.caching.proofs.comes_to.Tie as tie
+use Rattle.caching.proofs.comes_to.Reads as reads
+use Rattle.caching.proofs.comes_to.Lts as lts
+use Rattle.caching.proofs.answer_number.Reads as answer-number-reads
+
+-- src/lib.rt:106:16
+answer-number-requires : tie.Need-answer-number-requires
+answer-number-requires c κs = search needs
+
+-- src/lib.rt:100:1
+returns : tie.Need-returns
+returns c = rw (c .answer-number .ensures)
+
+pub comes-to-spec : {M : Type 1} → statement M
+comes-to-spec = tie.close (tie.spec answer-number-requires returns)
