@@ -34,7 +34,7 @@ use Rattle.arena.specs.Sequence.{Held, lend}
 use Rattle.arena.specs.Sizes.{setupOf}
 use Rattle.planning.specs.Ask.{ask-defs}
 use Rattle.planning.specs.Outcome.{outcome-defs}
-use Rattle.planning.specs.Sent.{Responses, sent-defs}
+use Rattle.planning.specs.Sent.{sent-defs}
 use Rattle.planning.specs.Plan.{plan-defs}
 use Rattle.planning.specs.Planning.{planning-defs}
 use Rattle.cache_manager.specs.Pipeline.{refusedAs, wrongAt, wrote, causeOf, Left, pipelined, judged, admittedTo, imaged, configured, planCall}

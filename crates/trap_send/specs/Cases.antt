@@ -1,7 +1,6 @@
 -- The program on `GET a` and at its limits, computed from planning's own call. Assumes nothing.
 use mathlib.Core.Path.{_≡_, refl}
 use mathlib.Core.List.{[], _∷_, _++_}
-use Prim.Native.Nat.{ℕ}
 use lib.ListN.{length, replicate}
 use Rattle.buffer.specs.Same.{Bytes}
 use Rattle.cache_manager.specs.Cases.{call-case-defs, recordOf, getA, sentA}

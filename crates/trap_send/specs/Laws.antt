@@ -11,7 +11,6 @@ use borrow.Author.Tests.{ltb-false, lt-ltb, le-ltb}
 use Rattle.buffer.specs.Same.{Bytes}
 use Rattle.buffer.specs.Part.{put}
 use Rattle.config.specs.Config.{checked, refused, settingsOf}
-use Rattle.config.specs.Limits.{maxBytes}
 use Rattle.config.specs.declared.Settings.{Settings}
 use Rattle.call_record.specs.Record.{Command, transaction}
 use Rattle.call_record.specs.Check.{checkDef}
@@ -55,6 +54,7 @@ front-within r n m q w = subst (λ (x : Sent). Within x n) q w
 
 -- ---- a record that is one
 
+-- either test says so; neither does
 or-yes : (x y : Bool) → y ≡ true → (x || y) ≡ true
 or-yes true y q = refl
 or-yes false y q = q
@@ -63,6 +63,7 @@ or-no : (x y : Bool) → x ≡ false → y ≡ false → (x || y) ≡ false
 or-no x y p q = rw (p, q)
 
 module _ (s f a : Bytes) (g : Settings) (k : Commands) (q : k ≡ commandCursor s) where
+  -- the record's commands are those that the cursor has before it
   commands-are : recordAt s .commands ≡ commandsOf s k
   unfolding recordAt
   commands-are = rw q
@@ -84,6 +85,7 @@ module _ (s f a : Bytes) (g : Settings) (k : Commands) (q : k ≡ commandCursor 
     record-late l = settles-all _ _ (λ d. ap outputOf (late-refused 0 0 s d f (held a n next) g rows (recordAt s) (ap (anyLate g 0) commands-are ∙ l)))
 
     module _ (b : Bool) (p : b ≡ transaction (recordAt s)) (l : anyLate g 0 (commandsOf s k) ≡ false) where
+      -- none of the record's commands is late, and what is sent for them is what the code writes
       on-time : anyLate g 0 (recordAt s .commands) ≡ false
       on-time = ap (anyLate g 0) commands-are ∙ l
 
@@ -132,6 +134,7 @@ module _ (f a : Bytes) (g : Settings) (b : Bool) (cs : List Command) (w : ℕ) (
       ap (λ (r : Room). r .short) (j rows o ∙ ap (λ (r : Room). spent r (length (allSent (setupNow g) rows 0 0 g cs))) u)
       ∙ send-short (setupNow g) rows 0 0 g b cs (length f) w i
 
+  -- so what is sent fits where the room was not short
   pub room-fits : z .short ≡ false → Fits g a (λ rows. sendBytes (setupNow g) rows 0 0 g b cs) 0 (length f)
   room-fits q rows o =
       let S : Bytes = sendBytes (setupNow g) rows 0 0 g b cs in
@@ -141,12 +144,15 @@ module _ (f a : Bytes) (g : Settings) (b : Bool) (cs : List Command) (w : ℕ) (
 -- ---- causes 3 and 2
 
 module _ (s f : Bytes) (a : Bytes) (g : Settings) (rows : ℕ → Row) (n : Counts) (next : ℕ) (l : length s ≤ maxRecord) where
+  -- a planning that causes 1 and 9 let through, with a plan buffer
   abbrev admittedWith : Bytes → Output
   admittedWith d = outputOf (admittedTo 0 0 s d f (held a n next) g rows)
 
+  -- cause 2
   pub record-wrong : (o : ℕ) → checkDef s ≡ Wrong o → Settles admittedWith (output Nothing f)
   record-wrong o q = settles-all _ _ (λ d. ap outputOf (paths.bad-record 0 0 s d f (held a n next) g rows (omega arith) o q))
 
+  -- a record that is one is planned
   pub record-fine : checkDef s ≡ Fine → (z : Output) → Settles (λ d. outputOf (recorded 0 0 s d f (held a n next) g rows (recordAt s))) z → Settles admittedWith z
   record-fine q z w = settles-as _ _ z (λ d. ap outputOf (paths.good-record 0 0 s d f (held a n next) g rows (omega arith) q)) w
 
@@ -164,6 +170,7 @@ module _ (s f : Bytes) where
   record-long l = settles-all _ _ (λ d. rw (lt-ltb maxRecord (length s) l))
 
   module _ (l : length s ≤ maxRecord) where
+    -- one that is not is planned
     planned-is : (d : Bytes) → sendsWith s f d ≡ outputOf (planCall 4 0 1800000 0 0 s d f emptyCache)
     unfolding sendsWith
     planned-is d = rw (le-ltb maxRecord (length s) l)
