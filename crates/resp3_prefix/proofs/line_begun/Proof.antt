@@ -1,0 +1,52 @@
+-- `resp3_prefix::line_begun` meets its contract. Assumes nothing.
+use mathlib.Core.Path.{_≡_, refl, sym, _∙_}
+use Prim.Native.Nat.{_+_, _-_, _≤_}
+use native.Mathlib.Omega.{arith}
+use lib.ListN.{length, drop}
+use Rattle.resp3.specs.Ends.{plain}
+use Rattle.resp3.specs.Paths as resp3-paths
+use Rattle.resp3_prefix.specs.Paths as paths
+use borrow.Author.Needs.{needs}
+use Rattle.resp3_prefix.proofs.line_begun.Statement.{statement}
+use Rattle.resp3_prefix.proofs.line_begun.Tie as tie
+
+abbrev Inv-loop : tie.InvT-loop
+Inv-loop s at i₀ i = (i ≤ length s) × (at + plain (drop at s) ≡ i + plain (drop i s))
+
+abbrev μ-loop : tie.MeasureT-loop
+μ-loop s at i₀ i = length s - i
+
+loop-holds : tie.Need-loop-holds Inv-loop μ-loop
+loop-holds c = (c .before .pre .1, refl)
+
+plain-at-requires : tie.Need-plain-at-requires Inv-loop μ-loop
+plain-at-requires c κs = search needs
+
+add-i : tie.Need-add-i Inv-loop μ-loop
+add-i c = let k = resp3-paths.plain-step (c .before .before .before .before .args .s .now) (c .before .before .loop .i) (sym (c .before .plain-at .ensures) ∙ c .if1 .taken) in omega arith
+
+loop-less : tie.Need-loop-less Inv-loop μ-loop
+loop-less c = let k = resp3-paths.plain-step (c .before .before .before .before .args .s .now) (c .before .before .loop .i) (sym (c .before .plain-at .ensures) ∙ c .if1 .taken) in omega arith
+
+loop-again : tie.Need-loop-again Inv-loop μ-loop
+loop-again c = let k = resp3-paths.plain-step (c .before .before .before .before .args .s .now) (c .before .before .loop .i) (sym (c .before .plain-at .ensures) ∙ c .if1 .taken) in (omega arith, omega arith)
+
+crlf-begun-requires : tie.Need-crlf-begun-requires Inv-loop μ-loop
+crlf-begun-requires c κs = (c .before .before .before .before .pre .0, omega (arith, c .before .before .before .before .pre .0, c .before .before .loop .inv .0))
+
+returns : tie.Need-returns Inv-loop μ-loop
+returns c = c .crlf-begun .ensures ∙ sym (paths.line-is _ _ _ (let k = resp3-paths.plain-stop (c .before .before .before .before .before .args .s .now) (c .before .before .before .loop .i) (sym (c .before .before .plain-at .ensures) ∙ c .before .if1 .left) in omega (arith, c .before .before .before .loop .inv .1)))
+
+pub line-begun-spec : {M : Type 1} → statement M
+line-begun-spec =
+    tie.close
+    (tie.spec
+    Inv-loop
+    μ-loop
+    loop-holds
+    plain-at-requires
+    add-i
+    loop-less
+    loop-again
+    crlf-begun-requires
+    returns)
