@@ -79,6 +79,21 @@ typedef struct {
     uint64_t refused;
 } redis_cache_resolve_return;
 
+/* What an answer without replies returns: so many bytes of the answer buffer are the result; replies is 1 where some command needs them, and then
+ * nothing was written. All that is not told is 0. */
+typedef struct {
+    uint64_t cause;
+    uint64_t answer;
+    uint64_t replies;
+} redis_cache_served_return;
+
+/* How far a value stands in bytes: verdict 0, it is complete and has so many bytes; 1, it lacks so many bytes at least; 2, no value begins so (bytes is
+ * 0). */
+typedef struct {
+    uint64_t verdict;
+    uint64_t bytes;
+} redis_cache_value_end_return;
+
 /* The counts as they are read. */
 typedef struct {
     uint64_t hit;
@@ -117,6 +132,19 @@ redis_cache_plan_return redis_cache_plan(uint8_t *arena, size_t arena_len, uint6
 redis_cache_resolve_return redis_cache_resolve(uint8_t *arena, size_t arena_len, uint64_t size, uint64_t mode, uint64_t ttl, uint64_t clock,
                                                uint64_t epoch, const uint8_t *plan, size_t plan_len, const uint8_t *replies, size_t replies_len,
                                                uint8_t *answer, size_t answer_len);
+
+/* Makes the result of a plan whose commands are all served, without arena and replies: what redis_cache_resolve makes of it with any list of replies,
+ * storing nothing. Where some command needs replies, `replies` is 1. A transaction's MULTI and EXEC are in what planning gave to send even where all
+ * is served: the result here is that of an EXEC that answers with an empty array, so a host that watches keys, or wants EXEC's own refusal, sends them
+ * and resolves. Causes: 10, then 8 where no replies are needed. */
+redis_cache_served_return redis_cache_served(const uint8_t *plan, size_t plan_len, uint8_t *answer, size_t answer_len);
+
+/* Of bytes received so far, how far the first RESP3 value of at most 16 MiB and 16 levels stands in them. Complete: the first `bytes` of them are a value.
+ * More needed: some value begins with these bytes, none is complete, and the shortest that begins so has `bytes` more. Otherwise no value begins so,
+ * whatever follows. Bytes appended change neither a complete nor a wrong verdict. It is one pass over the first value's bytes, of which it keeps
+ * nothing: a caller that waits for `bytes` more before it asks again reads a value that comes as one blob twice at most, and one of n elements at most
+ * once for each time that it asked. Nothing refuses it. */
+redis_cache_value_end_return redis_cache_value_end(const uint8_t *received, size_t received_len);
 
 /* Does what a push asks for: where its first element is the blob string `invalidate`, the keys in the array behind it are dropped, or all where `_`
  * stands there; any other push, and any other value, is ignored and returns 0. Causes: 1, 9, 6. */

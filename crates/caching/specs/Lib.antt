@@ -6,3 +6,5 @@ pub mod Resolved
 pub mod Planned
 pub mod Epoch
 pub mod EpochCases
+pub mod ServedAlone
+pub mod ValueEnd

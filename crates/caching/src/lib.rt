@@ -5,6 +5,8 @@ pub mod epoch_call;
 pub mod plan_call;
 pub mod push_call;
 pub mod resolve_call;
+pub mod served_call;
+pub mod value_end_call;
 
 use single_calls::Answered;
 use single_calls::Found;
