@@ -9,6 +9,7 @@ mod pipeline;
 pub(crate) use pipeline::{Replies, plan, push, resolve};
 
 use crate::Cause;
+use crate::frame::End;
 use crate::lent::{Counts, Epochs, Looked, Now, Settings};
 
 /// `redis_cache_bytes` of the header: a slice as the library hands one out.
@@ -31,6 +32,13 @@ struct NewCache {
 struct NewEpoch {
     epoch: u64,
     next: u64,
+}
+
+/// `redis_cache_value_end_return` of the header.
+#[repr(C)]
+struct ValueEnd {
+    verdict: u64,
+    bytes: u64,
 }
 
 /// `redis_cache_lookup_return` of the header.
@@ -94,6 +102,8 @@ unsafe extern "C" {
     ) -> u64;
 
     fn redis_cache_new_epoch(next: u64) -> NewEpoch;
+
+    fn redis_cache_value_end(received: *const u8, received_length: usize) -> ValueEnd;
 
     fn redis_cache_counts(counts: *const Counts) -> Counts;
 }
@@ -216,6 +226,16 @@ pub(crate) fn new_epoch(next: u64) -> Epochs {
     Epochs {
         epoch: new.epoch,
         next: new.next,
+    }
+}
+
+pub(crate) fn value_end(received: &[u8]) -> End {
+    // SAFETY: the bytes are lent as above, and only read.
+    let end = unsafe { redis_cache_value_end(received.as_ptr(), received.len()) };
+    match end.verdict {
+        0 => End::Complete(end.bytes as usize),
+        1 => End::More,
+        _ => End::Wrong,
     }
 }
 
