@@ -4,7 +4,9 @@ mod convert;
 mod read;
 
 pub use convert::{FromRedisValue, ParsingError, from_redis_value};
-pub(crate) use read::{MOST_BYTES, MOST_DEEP, result};
+#[cfg(test)]
+pub(crate) use read::MOST_BYTES;
+pub(crate) use read::result;
 
 use std::borrow::Cow;
 use std::fmt;
