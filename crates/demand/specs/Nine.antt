@@ -206,6 +206,8 @@ module _ (size : ℕ) (s : Bytes) where
           old = s;
           lent = plus 0 0 0;
           as-long = refl;
+          word = omega arith;
+          octets = b;
           set-up = sets-up;
           counted = no-counts;
           calls = map asReal qs;
