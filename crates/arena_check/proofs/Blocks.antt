@@ -2,14 +2,15 @@
 use mathlib.Core.Path.{_≡_, sym, ap, ap₂, _∙_, subst}
 use Prim.Native.Nat.{ℕ, zero, suc, _+_, _-_, _≤_, _<_}
 use native.Mathlib.Omega.{arith}
+use mathlib.Core.Bool.{Bool, not}
 use lib.ListN.{length}
-use lib.Dec.{ltb}
-use borrow.Author.Tests.{ltb-true, ltb-false}
+use lib.Dec.{eqb, ltb}
+use borrow.Author.Tests.{eqb-true, eqb-false, ltb-true, ltb-false}
 use Rattle.buffer.specs.Cases.{byTest}
 use Rattle.buffer.specs.Same.{Bytes, same}
 use Rattle.arena_check.specs.Walk.{nth}
 use Rattle.arena_check.specs.Check.{keyIn, nextIn}
-use Rattle.arena_check.specs.Chain.{Stand, keysFrom, Apart, Twice, Chained}
+use Rattle.arena_check.specs.Chain.{Stand, keysFrom, Apart, Twice, Answers, Chained}
 
 -- ---- what is found of a block
 
@@ -26,6 +27,13 @@ pub chained-done : (h f : ℕ) (s : Bytes) (first m n end : ℕ) → end ≡ nth
     → Chained h f s first m n end
 chained-done h f s first m n end e a b w =
     let l = nth-above h f s first m a b in record { refused = λ z. absurd (omega arith); place = λ z. e; apart = λ z. w }
+
+-- what is found of all things says whether a key is there twice
+pub chained-answers : (h f : ℕ) (s : Bytes) (first n r : ℕ) → Chained h f s first n n r → Answers (keysFrom h f s first) (not (eqb r 0)) n n
+chained-answers h f s first n r w =
+    byTest (eqb r 0)
+    (λ e. subst (λ (t : Bool). Answers (keysFrom h f s first) (not t) n n) (sym e) (w .refused (eqb-true r 0 e)))
+    (λ e. subst (λ (t : Bool). Answers (keysFrom h f s first) (not t) n n) (sym e) (w .apart (omega (arith, eqb-false r 0 e))))
 
 -- ---- block after block
 

@@ -4,7 +4,7 @@ use Prim.Native.Nat.{ℕ, zero, suc, _+_, _-_, _≤_, _<_}
 use native.Mathlib.Omega.{arith}
 use mathlib.Core.Bool.{Bool, true, false, true≢false, false≢true}
 use mathlib.Core.List.{List}
-use lib.ListN.{length, getD, set, length-set}
+use lib.ListN.{length, getD, set, replicate, length-set, length-replicate, getD-replicate}
 use lib.Seq.{getD-set-same, getD-set-other}
 use lib.Dec.{eqb, ltb}
 use borrow.Author.Tests.{eqb-true, eqb-false, ltb-true, ltb-false}
@@ -14,7 +14,7 @@ use Rattle.buffer.specs.Field.{read32}
 use Rattle.arena_check.specs.Home.{markOf, marks}
 use Rattle.arena_check.specs.Walk.{nth, before}
 use Rattle.arena_check.specs.Check.{keyIn, nextIn}
-use Rattle.arena_check.specs.Chain.{Stand, keysFrom, Apart, Twice, Among, Latest, Chains, Linked}
+use Rattle.arena_check.specs.Chain.{Stand, keysFrom, Apart, Twice, Among, Latest, Chains, Linked, Tables}
 
 -- a thing that stands among others is within the bytes
 pub stands-at : (h f : ℕ) (s : Bytes) (n first at i : ℕ) → Stand h f s n first → at ≡ nth (nextIn h f s) i first → i < n → nextIn h f s at ≤ length s
@@ -130,48 +130,53 @@ compared key keyAt place prev k c p x r w a b e q =
 
 -- ---- chains are made
 
+-- tables of zeros
+pub tables-clear : (m k : ℕ) → m ≤ k → Tables m (replicate marks 0) (replicate k 0) (replicate k 0)
+tables-clear m k h =
+    let l : length (replicate {A = ℕ} k 0) ≡ k = length-replicate {A = ℕ} k 0 in
+    record { marked = length-replicate {A = ℕ} marks 0; none = λ v q. getD-replicate {A = ℕ} marks v 0 0 q; linked = omega arith; placed = omega arith }
+
 module _ (keyAt : ℕ → Bytes) (next : ℕ → ℕ) (first : ℕ) where
   abbrev key : ℕ → Bytes
   key t = keyOf keyAt next first t
 
-  -- the first i things are chained, and the latest of each mark is known
-  pub record Chaining (last prev place : List ℕ) (i : ℕ) : Type 0 where
+  -- the first i of m things are chained, and the latest of each mark is known
+  pub record Chaining (m : ℕ) (last prev place : List ℕ) (i : ℕ) : Type 0 where
     pub marked : length last ≡ marks
-    pub linked : length prev ≡ 4096
-    pub placed : length place ≡ 4096
+    pub linked : m ≤ length prev
+    pub placed : m ≤ length place
     pub places : (t : ℕ) → t < i → getD place t 0 ≡ nth next t first
     pub links : (t : ℕ) → t < i → Latest key (markOf (key t)) (getD prev t 0) t
     pub latest : (m : ℕ) → m < marks → Latest key m (getD last m 0) i
 
-  pub chaining-none : (last prev place : List ℕ) → length last ≡ marks → length prev ≡ 4096 → length place ≡ 4096
-      → ((m : ℕ) → m < marks → getD last m 0 ≡ 0) → Chaining last prev place 0
-  chaining-none last prev place a b c z =
+  pub chaining-none : (m : ℕ) (last prev place : List ℕ) → Tables m last prev place → Chaining m last prev place 0
+  chaining-none m last prev place w =
       record {
-        marked = a;
-        linked = b;
-        placed = c;
+        marked = w .marked;
+        linked = w .linked;
+        placed = w .placed;
         places = λ t h. absurd (omega arith);
         links = λ t h. absurd (omega arith);
-        latest = λ m h.
-            let e = z m h in
+        latest = λ v h.
+            let e = w .none v h in
             record { low = omega arith; none = λ t p q. absurd (omega arith); its = λ p. absurd (omega arith) };
       }
 
-  module _ (last prev place : List ℕ) (i : ℕ) (w : Chaining last prev place i) where
+  module _ (size : ℕ) (last prev place : List ℕ) (i : ℕ) (w : Chaining size last prev place i) where
     pub chains : Chains key keyAt place prev i
     chains = record { keyed = λ t h. ap keyAt (w .places t h); links = w .links }
 
     -- one thing more, with the mark m
-    pub chaining-more : (at m : ℕ) → i < 4096 → at ≡ nth next i first → m ≡ markOf (key i) → m < marks
-        → Chaining (set last m (i + 1)) (set prev i (getD last m 0)) (set place i at) (i + 1)
+    pub chaining-more : (at m : ℕ) → i < size → at ≡ nth next i first → m ≡ markOf (key i) → m < marks
+        → Chaining size (set last m (i + 1)) (set prev i (getD last m 0)) (set place i at) (i + 1)
     chaining-more at m h p e l =
         let a = w .marked in
         let b = w .linked in
         let c = w .placed in
         record {
           marked = length-set last m (i + 1) ∙ a;
-          linked = length-set prev i (getD last m 0) ∙ b;
-          placed = length-set place i at ∙ c;
+          linked = let z = length-set prev i (getD last m 0) in omega arith;
+          placed = let z = length-set place i at in omega arith;
           places = λ t q.
               byTest (eqb t i)
               (λ z.
@@ -221,9 +226,10 @@ module _ (keyAt : ℕ → Bytes) (next : ℕ → ℕ) (first : ℕ) where
             }
 
 -- chains of things within the bytes can be followed
-pub chaining-linked : (h f : ℕ) (s : Bytes) (first n : ℕ) (last prev place : List ℕ) (i m q : ℕ) → Chaining (keyIn h s) (nextIn h f s) first last prev place i
-    → ((k : ℕ) → k < n → nextIn h f s (nth (nextIn h f s) k first) ≤ length s) → i ≤ n → i ≤ 4096 → m < marks → q ≡ getD last m 0 → Linked h s place prev q
-chaining-linked h f s first n last prev place i m q w g l u b e =
+pub chaining-linked : (h f : ℕ) (s : Bytes) (first n size : ℕ) (last prev place : List ℕ) (i m q : ℕ)
+    → Chaining (keyIn h s) (nextIn h f s) first size last prev place i → ((k : ℕ) → k < n → nextIn h f s (nth (nextIn h f s) k first) ≤ length s)
+    → i ≤ n → i ≤ size → size ≤ 4096 → m < marks → q ≡ getD last m 0 → Linked h s place prev q
+chaining-linked h f s first n size last prev place i m q w g l v u b e =
     let o = w .latest m b .low in
     let y = w .placed in
     let z = w .linked in
@@ -239,14 +245,14 @@ chaining-linked h f s first n last prev place i m q w g l u b e =
     }
 
 -- what was found in the chain of the i-th thing's mark says whether its key is among the first k
-pub chain-says : (h f : ℕ) (s : Bytes) (first : ℕ) (last prev place : List ℕ) (k i at mark q : ℕ) (r b : Bool)
-    → Chaining (keyIn h s) (nextIn h f s) first last prev place k → at ≡ nth (nextIn h f s) i first → mark ≡ markOf (keyIn h s at) → mark < marks
+pub chain-says : (h f : ℕ) (s : Bytes) (first size : ℕ) (last prev place : List ℕ) (k i at mark q : ℕ) (r b : Bool)
+    → Chaining (keyIn h s) (nextIn h f s) first size last prev place k → at ≡ nth (nextIn h f s) i first → mark ≡ markOf (keyIn h s at) → mark < marks
     → q ≡ getD last mark 0
     → ((key : ℕ → Bytes) (n : ℕ) → Chains key (keyIn h s) place prev n → Latest key (markOf (keyIn h s at)) q n → Among key r n (keyIn h s at))
     → r ≡ b → Among (keysFrom h f s first) b k (keysFrom h f s first i)
-chain-says h f s first last prev place k i at mark q r b w p e l z g y =
+chain-says h f s first size last prev place k i at mark q r b w p e l z g y =
     let o : Latest (keysFrom h f s first) (markOf (keyIn h s at)) q k =
     subst (λ (v : ℕ). Latest (keysFrom h f s first) v q k) e (subst (λ (v : ℕ). Latest (keysFrom h f s first) mark v k) (sym z) (w .latest mark l)) in
-    let c = chains (keyIn h s) (nextIn h f s) first last prev place k w in
+    let c = chains (keyIn h s) (nextIn h f s) first size last prev place k w in
     subst (λ (j : ℕ). Among (keysFrom h f s first) b k (keyIn h s j)) p
     (subst (λ (t : Bool). Among (keysFrom h f s first) t k (keyIn h s at)) y (g (keysFrom h f s first) k c o))

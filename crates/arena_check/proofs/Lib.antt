@@ -1,4 +1,5 @@
 pub mod Laws
+pub mod Marks
 pub mod Chains
 pub mod Blocks
 pub mod Walks

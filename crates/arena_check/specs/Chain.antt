@@ -62,6 +62,13 @@ pub record Linked (h : ℕ) (s : Bytes) (place prev : List ℕ) (c : ℕ) : Type
   pub back : (t : ℕ) → t < c → getD prev t 0 ≤ t
   pub inside : (t : ℕ) → t < c → getD place t 0 + h + read32 s (getD place t 0) ≤ length s
 
+-- tables for m things: a number for each mark, all 0, and a link and a place for each thing
+pub record Tables (m : ℕ) (last prev place : List ℕ) : Type 0 where
+  pub marked : length last ≡ marks
+  pub none : (v : ℕ) → v < marks → getD last v 0 ≡ 0
+  pub linked : m ≤ length prev
+  pub placed : m ≤ length place
+
 -- what is found of the first m of n things from `first` on: r is where they end, or 0
 pub record Chained (h f : ℕ) (s : Bytes) (first m n r : ℕ) : Type 0 where
   pub refused : r ≡ 0 → Twice (keysFrom h f s first) n

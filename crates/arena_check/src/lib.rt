@@ -11,8 +11,8 @@ ghost use Rattle.arena_check.specs.Walk.{nth, before};
 ghost use Rattle.siphash.specs.Sip.{sipHash13};
 ghost use Rattle.arena.specs.Decode.{isImage};
 ghost use Rattle.arena.specs.Sizes.{setupOf};
-ghost use Rattle.arena_check.specs.Home.{homeIn, markOf, marks};
-ghost use Rattle.arena_check.specs.Chain.{Stand, keysFrom, Among, Answers, Latest, Chains, Linked, Chained};
+ghost use Rattle.arena_check.specs.Home.{homeIn, mixed, markedBy, markOf, marks};
+ghost use Rattle.arena_check.specs.Chain.{Stand, keysFrom, Among, Answers, Latest, Chains, Linked, Tables, Chained};
 ghost use Rattle.arena_check.specs.Check.{keyIn, nextIn, keyAt, itemNext, itemWithin, entryOk, entriesEnd, itemOk, itemsEnd, shardOk};
 
 // Whether two ranges of s have the same bytes.
@@ -83,12 +83,48 @@ fn key_hash(s: &[u8], h: usize, at: usize) -> u64
     siphash::sip_hash_13(&s[from..to])
 }
 
+// A word of a key goes into a number below 2^32.
+fn mixed(x: u64, w: u64) -> u64
+    requires { ⌜ x < 2 ^ 32 ⌝ }
+    ensures { λ r. ⌜ (r ≡ mixed x w) × (r < 2 ^ 32) ⌝ }
+{
+    let low = w % 4294967296;
+    let high = w / 4294967296;
+    ((x + low) * 668265263 + high * 1540483477) / 16777216 % 4294967296
+}
+
+// What a key's mark is made of. Keys of 8 to 32 bytes, as most are, go in by two or four words that hold all their bytes; others by their hash.
+fn marked_by(key: &[u8]) -> u64
+    ensures { λ r. ⌜ r ≡ markedBy (now (key .entry)) ⌝ }
+{
+    let n = key.len();
+    if n < 8 {
+        return siphash::sip_hash_13(key);
+    }
+    if 32 < n {
+        return siphash::sip_hash_13(key);
+    }
+    let ends = mixed(
+        mixed(n as u64, buffer::read_u64(key, 0)),
+        buffer::read_u64(key, n - 8),
+    );
+    if n <= 16 {
+        return ends;
+    }
+    mixed(
+        mixed(ends, buffer::read_u64(key, 8)),
+        buffer::read_u64(key, n - 16),
+    )
+}
+
 // The mark of the key of the thing at `at`: things with the same key have the same.
 fn mark_at(s: &[u8], h: usize, at: usize) -> usize
     requires { ⌜ (4 ≤ h) × (at + h + read32 (now s) at ≤ length (now s)) × (length (now s) < 2 ^ 32) ⌝ }
     ensures { λ r. ⌜ (r ≡ markOf (keyIn h (now (s .entry)) at)) × (r < marks) ⌝ }
 {
-    (key_hash(s, h, at) / 65536 % 2048) as usize
+    let from = at + h;
+    let to = from + buffer::read_u32(s, at) as usize;
+    (marked_by(&s[from..to]) / 65536 % 2048) as usize
 }
 
 // A place and a number of a thing, as they are kept.
@@ -126,20 +162,28 @@ fn in_chain(s: &[u8], h: usize, place: &[u32], prev: &[u16], last: usize, at: us
 }
 
 // Where the first m of n things from `first` on end; 0 where two things have the same key, one of them among the first m. Each is compared with those
-// of the first m before it that share its mark.
-fn chained(s: &[u8], h: usize, f: usize, m: usize, n: usize, first: usize) -> usize
-    requires { ⌜ Stand h f (now s) n first × (0 < m) × (m ≤ n) × (m ≤ 4096) ⌝ }
+// of the first m before it that share its mark. It is lent the tables of the chains: for each mark the number of the latest thing that has it, all 0 at first,
+// and what `in_chain` follows.
+fn chained(
+    s: &[u8],
+    h: usize,
+    f: usize,
+    m: usize,
+    n: usize,
+    first: usize,
+    last: &mut [u16],
+    prev: &mut [u16],
+    place: &mut [u32],
+) -> usize
+    requires { ⌜ Stand h f (now s) n first × (0 < m) × (m ≤ n) × (m ≤ 4096) × Tables m (now last) (now prev) (now place) ⌝ }
     ensures { λ r. ⌜ Chained h f (now (s .entry)) first m n r ⌝ }
 {
-    let mut last = [0u16; 2048];
-    let mut prev = [0u16; 4096];
-    let mut place = [0u32; 4096];
     let mut at = first;
     let mut i = 0;
     while i < m {
         let mark = mark_at(s, h, at);
         let c = last[mark];
-        if in_chain(s, h, &place, &prev, from_u16(c), at) {
+        if in_chain(s, h, place, prev, from_u16(c), at) {
             return 0;
         }
         place[i] = at as u32;
@@ -152,13 +196,35 @@ fn chained(s: &[u8], h: usize, f: usize, m: usize, n: usize, first: usize) -> us
     while i < n {
         let mark = mark_at(s, h, at);
         let c = last[mark];
-        if in_chain(s, h, &place, &prev, from_u16(c), at) {
+        if in_chain(s, h, place, prev, from_u16(c), at) {
             return 0;
         }
         at = next_place(s, h, f, at);
         i += 1;
     }
     end
+}
+
+// So for at most 64 things, all of which are chained: small tables are soon cleared.
+fn small_chained(s: &[u8], h: usize, f: usize, n: usize, first: usize) -> usize
+    requires { ⌜ Stand h f (now s) n first × (0 < n) × (n ≤ 64) ⌝ }
+    ensures { λ r. ⌜ Chained h f (now (s .entry)) first n n r ⌝ }
+{
+    let mut last = [0u16; 2048];
+    let mut prev = [0u16; 64];
+    let mut place = [0u32; 64];
+    chained(s, h, f, n, n, first, &mut last, &mut prev, &mut place)
+}
+
+// And for at most 4,096 of n.
+fn large_chained(s: &[u8], h: usize, f: usize, m: usize, n: usize, first: usize) -> usize
+    requires { ⌜ Stand h f (now s) n first × (0 < m) × (m ≤ n) × (m ≤ 4096) ⌝ }
+    ensures { λ r. ⌜ Chained h f (now (s .entry)) first m n r ⌝ }
+{
+    let mut last = [0u16; 2048];
+    let mut prev = [0u16; 4096];
+    let mut place = [0u32; 4096];
+    chained(s, h, f, m, n, first, &mut last, &mut prev, &mut place)
 }
 
 // The smaller of a number and 4096.
@@ -176,14 +242,20 @@ fn distinct(s: &[u8], h: usize, f: usize, n: usize, first: usize) -> bool
     requires { ⌜ Stand h f (now s) n first ⌝ }
     ensures { λ r. ⌜ Answers (keysFrom h f (now (s .entry)) first) r n n ⌝ }
 {
-    if n <= 16 {
+    if n <= 1 {
+        return true;
+    }
+    if n <= 4 {
         return few_distinct(s, h, f, n, first);
+    }
+    if n <= 64 {
+        return small_chained(s, h, f, n, first) != 0;
     }
     let mut at = first;
     let mut left = n;
     while 0 < left {
         let m = at_most_4096(left);
-        let next = chained(s, h, f, m, left, at);
+        let next = large_chained(s, h, f, m, left, at);
         if next == 0 {
             return false;
         }

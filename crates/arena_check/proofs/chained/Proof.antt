@@ -4,7 +4,7 @@ use mathlib.Core.Path.{_≡_, refl, sym, ap, _∙_, subst}
 use Prim.Native.Nat.{ℕ, _-_, _≤_}
 use native.Mathlib.Omega.{arith}
 use mathlib.Core.Bool.{true, false}
-use lib.ListN.{length-replicate, getD-replicate}
+use lib.ListN.{length, length-set}
 use borrow.Author.Needs.{needs}
 use Rattle.arena_check.specs.Home.{markOf}
 use Rattle.arena_check.specs.Walk.{nth}
@@ -18,7 +18,8 @@ use Rattle.arena_check.proofs.chained.Tie as tie
 
 abbrev Inv-loop : tie.InvT-loop
 Inv-loop s h f m n first last₀ prev₀ place₀ at₀ i₀ last prev place at i =
-    (i ≤ m) × (at ≡ nth (nextIn h f s) i first) × Chaining (keyIn h s) (nextIn h f s) first last prev place i × Apart (keysFrom h f s first) m i
+    (i ≤ m) × (at ≡ nth (nextIn h f s) i first) × Chaining (keyIn h s) (nextIn h f s) first m last prev place i × Apart (keysFrom h f s first) m i
+    × (length last ≡ length last₀) × (length prev ≡ length prev₀) × (length place ≡ length place₀)
 
 abbrev μ-loop : tie.MeasureT-loop
 μ-loop s h f m n first last₀ prev₀ place₀ at₀ i₀ last prev place at i = m - i
@@ -26,86 +27,92 @@ abbrev μ-loop : tie.MeasureT-loop
 abbrev Inv-loop2 : tie.InvT-loop2
 Inv-loop2 s h f m n first last prev place at₀ i₀ end at i =
     (m ≤ i) × (i ≤ n) × (at ≡ nth (nextIn h f s) i first) × (end ≡ nth (nextIn h f s) m first)
-    × Chaining (keyIn h s) (nextIn h f s) first last prev place m × Apart (keysFrom h f s first) m i
+    × Chaining (keyIn h s) (nextIn h f s) first m last prev place m × Apart (keysFrom h f s first) m i
 
 abbrev μ-loop2 : tie.MeasureT-loop2
 μ-loop2 s h f m n first last prev place at₀ i₀ end at i = n - i
 
+-- within a loop the thing at `at` is within the bytes
+inside : (c : tie.In-loop Inv-loop μ-loop Inv-loop2 μ-loop2) → let a = c .before .before .before .before .before .before .args in nextIn (a .h) (a .f) (a .s .now) (c .before .loop .at) ≤ length (a .s .now)
+inside c =
+    let e = c .before .before .before .before .before .before in
+    let a = e .args in
+    let l = c .before .loop in
+    stands-at (a .h) (a .f) (a .s .now) (a .n) (a .first) (l .at) (l .i) (e .pre .0) (l .inv .1) (omega arith)
+
+inside2 : (c : tie.In-loop2 Inv-loop μ-loop Inv-loop2 μ-loop2) → let a = c .before .before .before .before .before .before .before .before .args in nextIn (a .h) (a .f) (a .s .now) (c .before .loop2 .at) ≤ length (a .s .now)
+inside2 c =
+    let e = c .before .before .before .before .before .before .before .before in
+    let a = e .args in
+    let l = c .before .loop2 in
+    stands-at (a .h) (a .f) (a .s .now) (a .n) (a .first) (l .at) (l .i) (e .pre .0) (l .inv .2) (omega arith)
+
 loop-holds : tie.Need-loop-holds Inv-loop μ-loop Inv-loop2 μ-loop2
 loop-holds c =
-    let a = c .before .args in (
-      omega arith,
-      unfold nth in refl,
-      chaining-none (keyIn (a .h) (a .s .now)) (nextIn (a .h) (a .f) (a .s .now)) (a .first) _ _ _ (length-replicate {A = ℕ} 2048 0)
-          (length-replicate {A = ℕ} 4096 0)
-          (length-replicate {A = ℕ} 4096 0) (λ m q. getD-replicate {A = ℕ} 2048 m 0 0 q),
-      λ j k p q r. absurd (omega arith),
-    )
+    let e = c .before .before .before .before in
+    let a = e .args in
+    let w = chaining-none (keyIn (a .h) (a .s .now)) (nextIn (a .h) (a .f) (a .s .now)) (a .first) (a .m) _ _ _ (e .pre .4) in
+    (omega arith, unfold nth in refl, w, λ j k p q r. absurd (omega arith), refl, refl, refl)
 
 mark-at-requires : tie.Need-mark-at-requires Inv-loop μ-loop Inv-loop2 μ-loop2
-mark-at-requires c κs =
-    let a = c .before .before .before .args in
-    let l = c .before .loop in
-    let t = stands-at (a .h) (a .f) (a .s .now) (a .n) (a .first) (l .at) (l .i) (c .before .before .before .pre .0) (l .inv .1) (omega arith) in
-    omega arith
+mark-at-requires c κs = let t = inside c in omega arith
 
 mul-c : tie.Need-mul-c Inv-loop μ-loop Inv-loop2 μ-loop2
 mul-c c = omega (arith, c .mark-at .ensures .1)
 
-array-read-c : tie.Need-array-read-c Inv-loop μ-loop Inv-loop2 μ-loop2
-array-read-c c = omega (arith, c .mark-at .ensures .1)
-
-slice-aggregate-in-chain : tie.Need-slice-aggregate-in-chain Inv-loop μ-loop Inv-loop2 μ-loop2
-slice-aggregate-in-chain c = omega (arith, c .before .before .before .loop .inv .2 .placed)
-
-slice-aggregate-in-chain-2 : tie.Need-slice-aggregate-in-chain-2 Inv-loop μ-loop Inv-loop2 μ-loop2
-slice-aggregate-in-chain-2 c = omega (arith, c .before .before .before .before .loop .inv .2 .linked)
+slice-read-c : tie.Need-slice-read-c Inv-loop μ-loop Inv-loop2 μ-loop2
+slice-read-c c = let w = c .before .before .before .loop .inv .2 .marked in omega (arith, c .before .mark-at .ensures .1)
 
 from-u16-requires : tie.Need-from-u16-requires Inv-loop μ-loop Inv-loop2 μ-loop2
 from-u16-requires c κs = search needs
 
 in-chain-requires : tie.Need-in-chain-requires Inv-loop μ-loop Inv-loop2 μ-loop2
 in-chain-requires c κs =
-    let a = c .before .before .before .before .before .before .before .args in
-    let l = c .before .before .before .before .before .loop in
-    let t = stands-at (a .h) (a .f) (a .s .now) (a .n) (a .first) (l .at) (l .i) (c .before .before .before .before .before .before .before .pre .0)
-    (l .inv .1) (omega arith) in
+    let e = c .before .before .before .before .before .before .before .before .before .before .before in
+    let a = e .args in
+    let l = c .before .before .before .before .before .before .loop in
+    let t = inside (c .before .before .before .before .before) in
     let w =
-    chaining-linked (a .h) (a .f) (a .s .now) (a .first) (a .n) (l .last) (l .prev) (l .place) (l .i) (c .before .before .before .mark-at .result) _
-    (l .inv .2) (c .before .before .before .before .before .before .before .pre .0 .0) (omega arith) (omega arith)
-    (c .before .before .before .mark-at .ensures .1) (c .from-u16 .ensures) in
+    chaining-linked (a .h) (a .f) (a .s .now) (a .first) (a .n) (a .m) (l .last) (l .prev) (l .place) (l .i)
+    (c .before .before .before .before .mark-at .result) _ (l .inv .2) (e .pre .0 .0) (omega arith) (omega arith)
+    (omega arith) (c .before .before .before .before .mark-at .ensures .1) (c .from-u16 .ensures) in
     (w, omega arith, omega arith, omega arith)
+
+same-length : tie.Need-same-length Inv-loop μ-loop Inv-loop2 μ-loop2
+same-length c = omega (arith, c .before .before .before .before .before .before .before .before .loop .inv .4)
+
+same-length-2 : tie.Need-same-length-2 Inv-loop μ-loop Inv-loop2 μ-loop2
+same-length-2 c = omega (arith, c .before .before .before .before .before .before .before .before .loop .inv .5)
+
+same-length-3 : tie.Need-same-length-3 Inv-loop μ-loop Inv-loop2 μ-loop2
+same-length-3 c = omega (arith, c .before .before .before .before .before .before .before .before .loop .inv .6)
 
 returns : tie.Need-returns Inv-loop μ-loop Inv-loop2 μ-loop2
 returns c =
-    let a = c .before .before .before .before .before .before .before .before .before .args in
-    let l = c .before .before .before .before .before .before .before .loop in
+    let a = c .before .before .before .before .before .before .before .before .before .before .before .before .before .args in
+    let l = c .before .before .before .before .before .before .before .before .loop in
     let found =
-    chain-says (a .h) (a .f) (a .s .now) (a .first) (l .last) (l .prev) (l .place) (l .i) (l .i) (l .at) _ _ _ true (l .inv .2) (l .inv .1)
-    (c .before .before .before .before .before .mark-at .ensures .0) (c .before .before .before .before .before .mark-at .ensures .1)
+    chain-says (a .h) (a .f) (a .s .now) (a .first) (a .m) (l .last) (l .prev) (l .place) (l .i) (l .i) (l .at) _ _ _ true
+    (l .inv .2) (l .inv .1) (c .before .before .before .before .before .before .mark-at .ensures .0)
+    (c .before .before .before .before .before .before .mark-at .ensures .1)
     (c .before .before .from-u16 .ensures) (c .before .in-chain .ensures) (c .if1 .taken) in
     chained-refused (a .h) (a .f) (a .s .now) (a .first) (a .m) (a .n)
     (twice-now (keysFrom (a .h) (a .f) (a .s .now) (a .first)) (a .n) (l .i) (l .i) found (omega arith) (omega arith))
 
 cast-place : tie.Need-cast-place Inv-loop μ-loop Inv-loop2 μ-loop2
-cast-place c =
-    let a = c .before .before .before .before .before .before .before .before .before .args in
-    let l = c .before .before .before .before .before .before .before .loop in
-    let t = stands-at (a .h) (a .f) (a .s .now) (a .n) (a .first) (l .at) (l .i)
-    (c .before .before .before .before .before .before .before .before .before .pre .0) (l .inv .1) (omega arith) in
-    omega arith
+cast-place c = let t = inside (c .before .before .before .before .before .before .before) in omega arith
 
 mul-place : tie.Need-mul-place Inv-loop μ-loop Inv-loop2 μ-loop2
 mul-place c = omega arith
 
-array-write-place : tie.Need-array-write-place Inv-loop μ-loop Inv-loop2 μ-loop2
-array-write-place c = omega arith
+slice-write-place : tie.Need-slice-write-place Inv-loop μ-loop Inv-loop2 μ-loop2
+slice-write-place c = omega (arith, c .before .before .before .before .before .before .before .before .loop .inv .2 .placed)
 
 mul-prev : tie.Need-mul-prev Inv-loop μ-loop Inv-loop2 μ-loop2
 mul-prev c = omega arith
 
-array-write-prev : tie.Need-array-write-prev Inv-loop μ-loop Inv-loop2 μ-loop2
-array-write-prev c = omega arith
+slice-write-prev : tie.Need-slice-write-prev Inv-loop μ-loop Inv-loop2 μ-loop2
+slice-write-prev c = omega (arith, c .before .before .before .before .before .before .before .before .loop .inv .2 .linked)
 
 add-i : tie.Need-add-i Inv-loop μ-loop Inv-loop2 μ-loop2
 add-i c = omega arith
@@ -114,109 +121,102 @@ cast-last : tie.Need-cast-last Inv-loop μ-loop Inv-loop2 μ-loop2
 cast-last c = omega arith
 
 mul-last : tie.Need-mul-last Inv-loop μ-loop Inv-loop2 μ-loop2
-mul-last c = omega (arith, c .before .before .before .before .before .mark-at .ensures .1)
+mul-last c = omega (arith, c .before .before .before .before .before .before .mark-at .ensures .1)
 
-array-write-last : tie.Need-array-write-last Inv-loop μ-loop Inv-loop2 μ-loop2
-array-write-last c = omega (arith, c .before .before .before .before .before .mark-at .ensures .1)
+slice-write-last : tie.Need-slice-write-last Inv-loop μ-loop Inv-loop2 μ-loop2
+slice-write-last c =
+    let w = c .before .before .before .before .before .before .before .before .loop .inv .2 .marked in
+    omega (arith, c .before .before .before .before .before .before .mark-at .ensures .1)
 
 next-place-requires : tie.Need-next-place-requires Inv-loop μ-loop Inv-loop2 μ-loop2
-next-place-requires c κs =
-    let a = c .before .before .before .before .before .before .before .before .before .args in
-    let l = c .before .before .before .before .before .before .before .loop in
-    let t = stands-at (a .h) (a .f) (a .s .now) (a .n) (a .first) (l .at) (l .i)
-    (c .before .before .before .before .before .before .before .before .before .pre .0) (l .inv .1) (omega arith) in
-    omega arith
+next-place-requires c κs = let t = inside (c .before .before .before .before .before .before .before) in omega arith
 
 loop-less : tie.Need-loop-less Inv-loop μ-loop Inv-loop2 μ-loop2
 loop-less c = omega arith
 
 loop-again : tie.Need-loop-again Inv-loop μ-loop Inv-loop2 μ-loop2
 loop-again c =
-    let a = c .before .before .before .before .before .before .before .before .before .before .args in
-    let l = c .before .before .before .before .before .before .before .before .loop in
+    let a = c .before .before .before .before .before .before .before .before .before .before .before .before .before .before .args in
+    let l = c .before .before .before .before .before .before .before .before .before .loop in
     let found =
-    chain-says (a .h) (a .f) (a .s .now) (a .first) (l .last) (l .prev) (l .place) (l .i) (l .i) (l .at) _ _ _ false (l .inv .2) (l .inv .1)
-    (c .before .before .before .before .before .before .mark-at .ensures .0) (c .before .before .before .before .before .before .mark-at .ensures .1)
+    chain-says (a .h) (a .f) (a .s .now) (a .first) (a .m) (l .last) (l .prev) (l .place) (l .i) (l .i) (l .at) _ _ _ false
+    (l .inv .2) (l .inv .1) (c .before .before .before .before .before .before .before .mark-at .ensures .0)
+    (c .before .before .before .before .before .before .before .mark-at .ensures .1)
     (c .before .before .before .from-u16 .ensures) (c .before .before .in-chain .ensures) (c .before .if1 .left) in
     let next : ℕ → ℕ = nextIn (a .h) (a .f) (a .s .now) in (
       omega arith,
       c .next-place .ensures ∙ ap next (l .inv .1) ∙ sym (nth-more next (l .i) (a .first)),
-      chaining-more (keyIn (a .h) (a .s .now)) next (a .first) (l .last) (l .prev) (l .place) (l .i) (l .inv .2) (l .at) _ (omega arith) (l .inv .1)
-          (c .before .before .before .before .before .before .mark-at .ensures .0 ∙ ap (λ (j : ℕ). markOf (keyIn (a .h) (a .s .now) j)) (l .inv .1))
-          (c .before .before .before .before .before .before .mark-at .ensures .1),
+      chaining-more (keyIn (a .h) (a .s .now)) next (a .first) (a .m) (l .last) (l .prev) (l .place) (l .i) (l .inv .2) (l .at) _ (omega arith) (l .inv .1)
+          (c .before .before .before .before .before .before .before .mark-at .ensures .0 ∙ ap (λ (j : ℕ). markOf (keyIn (a .h) (a .s .now) j))
+          (l .inv .1)) (c .before .before .before .before .before .before .before .mark-at .ensures .1),
       apart-more (keysFrom (a .h) (a .f) (a .s .now) (a .first)) (a .m) (l .i) (l .i) (l .inv .3) found (λ j p q. q),
+      length-set (l .last) _ _ ∙ l .inv .4,
+      length-set (l .prev) _ _ ∙ l .inv .5,
+      length-set (l .place) _ _ ∙ l .inv .6,
     )
 
 loop2-holds : tie.Need-loop2-holds Inv-loop μ-loop Inv-loop2 μ-loop2
 loop2-holds c =
-    let a = c .before .before .before .args in
+    let a = c .before .before .before .before .before .before .args in
     let l = c .before .loop in
     let e : l .i ≡ a .m = omega arith in (
       omega arith,
       omega arith,
       l .inv .1,
       l .inv .1 ∙ ap (λ (j : ℕ). nth (nextIn (a .h) (a .f) (a .s .now)) j (a .first)) e,
-      subst (Chaining (keyIn (a .h) (a .s .now)) (nextIn (a .h) (a .f) (a .s .now)) (a .first) (l .last) (l .prev) (l .place)) e (l .inv .2),
+      subst (Chaining (keyIn (a .h) (a .s .now)) (nextIn (a .h) (a .f) (a .s .now)) (a .first) (a .m) (l .last) (l .prev) (l .place)) e (l .inv .2),
       l .inv .3,
     )
 
 mark-at-requires-2 : tie.Need-mark-at-requires-2 Inv-loop μ-loop Inv-loop2 μ-loop2
-mark-at-requires-2 c κs =
-    let a = c .before .before .before .before .before .args in
-    let l = c .before .loop2 in
-    let t = stands-at (a .h) (a .f) (a .s .now) (a .n) (a .first) (l .at) (l .i) (c .before .before .before .before .before .pre .0) (l .inv .2)
-    (omega arith) in
-    omega arith
+mark-at-requires-2 c κs = let t = inside2 c in omega arith
 
 mul-c-2 : tie.Need-mul-c-2 Inv-loop μ-loop Inv-loop2 μ-loop2
 mul-c-2 c = omega (arith, c .mark-at2 .ensures .1)
 
-array-read-c-2 : tie.Need-array-read-c-2 Inv-loop μ-loop Inv-loop2 μ-loop2
-array-read-c-2 c = omega (arith, c .mark-at2 .ensures .1)
-
-slice-aggregate-in-chain-3 : tie.Need-slice-aggregate-in-chain-3 Inv-loop μ-loop Inv-loop2 μ-loop2
-slice-aggregate-in-chain-3 c = omega (arith, c .before .before .before .loop2 .inv .4 .placed)
-
-slice-aggregate-in-chain-4 : tie.Need-slice-aggregate-in-chain-4 Inv-loop μ-loop Inv-loop2 μ-loop2
-slice-aggregate-in-chain-4 c = omega (arith, c .before .before .before .before .loop2 .inv .4 .linked)
+slice-read-c-2 : tie.Need-slice-read-c-2 Inv-loop μ-loop Inv-loop2 μ-loop2
+slice-read-c-2 c = let w = c .before .before .before .loop2 .inv .4 .marked in omega (arith, c .before .mark-at2 .ensures .1)
 
 from-u16-requires-2 : tie.Need-from-u16-requires-2 Inv-loop μ-loop Inv-loop2 μ-loop2
 from-u16-requires-2 c κs = search needs
 
 in-chain-requires-2 : tie.Need-in-chain-requires-2 Inv-loop μ-loop Inv-loop2 μ-loop2
 in-chain-requires-2 c κs =
-    let a = c .before .before .before .before .before .before .before .before .before .args in
-    let l = c .before .before .before .before .before .loop2 in
-    let t = stands-at (a .h) (a .f) (a .s .now) (a .n) (a .first) (l .at) (l .i)
-    (c .before .before .before .before .before .before .before .before .before .pre .0) (l .inv .2) (omega arith) in
+    let e = c .before .before .before .before .before .before .before .before .before .before .before .before .before in
+    let a = e .args in
+    let l = c .before .before .before .before .before .before .loop2 in
+    let t = inside2 (c .before .before .before .before .before) in
+    let o = c .before .before .before .before .before .before .before .before .loop in
     let w =
-    chaining-linked (a .h) (a .f) (a .s .now) (a .first) (a .n) (c .before .before .before .before .before .before .before .loop .last)
-    (c .before .before .before .before .before .before .before .loop .prev) (c .before .before .before .before .before .before .before .loop .place)
-    (a .m) (c .before .before .before .mark-at2 .result) _ (l .inv .4)
-    (c .before .before .before .before .before .before .before .before .before .pre .0 .0) (omega arith) (omega arith)
-    (c .before .before .before .mark-at2 .ensures .1) (c .from-u162 .ensures) in
+    chaining-linked (a .h) (a .f) (a .s .now) (a .first) (a .n) (a .m) (o .last) (o .prev) (o .place) (a .m)
+    (c .before .before .before .before .mark-at2 .result) _ (l .inv .4) (e .pre .0 .0) (omega arith)
+    (omega arith) (omega arith) (c .before .before .before .before .mark-at2 .ensures .1) (c .from-u162 .ensures) in
     (w, omega arith, omega arith, omega arith)
+
+same-length-4 : tie.Need-same-length-4 Inv-loop μ-loop Inv-loop2 μ-loop2
+same-length-4 c = omega (arith, c .before .before .before .before .before .before .before .before .before .before .loop .inv .4)
+
+same-length-5 : tie.Need-same-length-5 Inv-loop μ-loop Inv-loop2 μ-loop2
+same-length-5 c = omega (arith, c .before .before .before .before .before .before .before .before .before .before .loop .inv .5)
+
+same-length-6 : tie.Need-same-length-6 Inv-loop μ-loop Inv-loop2 μ-loop2
+same-length-6 c = omega (arith, c .before .before .before .before .before .before .before .before .before .before .loop .inv .6)
 
 returns-2 : tie.Need-returns-2 Inv-loop μ-loop Inv-loop2 μ-loop2
 returns-2 c =
-    let a = c .before .before .before .before .before .before .before .before .before .before .before .args in
-    let l = c .before .before .before .before .before .before .before .loop2 in
+    let a = c .before .before .before .before .before .before .before .before .before .before .before .before .before .before .before .args in
+    let l = c .before .before .before .before .before .before .before .before .loop2 in
+    let o = c .before .before .before .before .before .before .before .before .before .before .loop in
     let found =
-    chain-says (a .h) (a .f) (a .s .now) (a .first) (c .before .before .before .before .before .before .before .before .before .loop .last)
-    (c .before .before .before .before .before .before .before .before .before .loop .prev)
-    (c .before .before .before .before .before .before .before .before .before .loop .place) (a .m) (l .i) (l .at) _ _ _ true (l .inv .4) (l .inv .2)
-    (c .before .before .before .before .before .mark-at2 .ensures .0) (c .before .before .before .before .before .mark-at2 .ensures .1)
+    chain-says (a .h) (a .f) (a .s .now) (a .first) (a .m) (o .last) (o .prev) (o .place) (a .m) (l .i) (l .at) _ _ _ true
+    (l .inv .4) (l .inv .2) (c .before .before .before .before .before .before .mark-at2 .ensures .0)
+    (c .before .before .before .before .before .before .mark-at2 .ensures .1)
     (c .before .before .from-u162 .ensures) (c .before .in-chain2 .ensures) (c .if2 .taken) in
     chained-refused (a .h) (a .f) (a .s .now) (a .first) (a .m) (a .n)
     (twice-now (keysFrom (a .h) (a .f) (a .s .now) (a .first)) (a .n) (l .i) (a .m) found (omega arith) (omega arith))
 
 next-place-requires-2 : tie.Need-next-place-requires-2 Inv-loop μ-loop Inv-loop2 μ-loop2
-next-place-requires-2 c κs =
-    let a = c .before .before .before .before .before .before .before .before .before .before .before .args in
-    let l = c .before .before .before .before .before .before .before .loop2 in
-    let t = stands-at (a .h) (a .f) (a .s .now) (a .n) (a .first) (l .at) (l .i)
-    (c .before .before .before .before .before .before .before .before .before .before .before .pre .0) (l .inv .2) (omega arith) in
-    omega arith
+next-place-requires-2 c κs = let t = inside2 (c .before .before .before .before .before .before .before) in omega arith
 
 add-i-2 : tie.Need-add-i-2 Inv-loop μ-loop Inv-loop2 μ-loop2
 add-i-2 c = omega arith
@@ -226,14 +226,13 @@ loop2-less c = omega arith
 
 loop2-again : tie.Need-loop2-again Inv-loop μ-loop Inv-loop2 μ-loop2
 loop2-again c =
-    let a = c .before .before .before .before .before .before .before .before .before .before .before .before .args in
-    let l = c .before .before .before .before .before .before .before .before .loop2 in
+    let a = c .before .before .before .before .before .before .before .before .before .before .before .before .before .before .before .before .args in
+    let l = c .before .before .before .before .before .before .before .before .before .loop2 in
+    let o = c .before .before .before .before .before .before .before .before .before .before .before .loop in
     let found =
-    chain-says (a .h) (a .f) (a .s .now) (a .first) (c .before .before .before .before .before .before .before .before .before .before .loop .last)
-    (c .before .before .before .before .before .before .before .before .before .before .loop .prev)
-    (c .before .before .before .before .before .before .before .before .before .before .loop .place) (a .m) (l .i) (l .at) _ _ _ false (l .inv .4)
-    (l .inv .2) (c .before .before .before .before .before .before .mark-at2 .ensures .0)
-    (c .before .before .before .before .before .before .mark-at2 .ensures .1)
+    chain-says (a .h) (a .f) (a .s .now) (a .first) (a .m) (o .last) (o .prev) (o .place) (a .m) (l .i) (l .at) _ _ _ false
+    (l .inv .4) (l .inv .2) (c .before .before .before .before .before .before .before .mark-at2 .ensures .0)
+    (c .before .before .before .before .before .before .before .mark-at2 .ensures .1)
     (c .before .before .before .from-u162 .ensures) (c .before .before .in-chain2 .ensures) (c .before .if2 .left) in
     let next : ℕ → ℕ = nextIn (a .h) (a .f) (a .s .now) in (
       omega arith,
@@ -244,16 +243,24 @@ loop2-again c =
       apart-more (keysFrom (a .h) (a .f) (a .s .now) (a .first)) (a .m) (l .i) (a .m) (l .inv .5) found (λ j p q. p),
     )
 
+same-length-7 : tie.Need-same-length-7 Inv-loop μ-loop Inv-loop2 μ-loop2
+same-length-7 c = omega (arith, c .before .before .before .loop .inv .4)
+
+same-length-8 : tie.Need-same-length-8 Inv-loop μ-loop Inv-loop2 μ-loop2
+same-length-8 c = omega (arith, c .before .before .before .loop .inv .5)
+
+same-length-9 : tie.Need-same-length-9 Inv-loop μ-loop Inv-loop2 μ-loop2
+same-length-9 c = omega (arith, c .before .before .before .loop .inv .6)
+
 returns-3 : tie.Need-returns-3 Inv-loop μ-loop Inv-loop2 μ-loop2
 returns-3 c =
-    let a = c .before .before .before .before .before .args in
+    let a = c .before .before .before .before .before .before .before .before .args in
     let l = c .before .loop2 in
     chained-done (a .h) (a .f) (a .s .now) (a .first) (a .m) (a .n) _ (l .inv .3) (omega arith) (omega arith) (λ j k p q r. l .inv .5 j k p q (omega arith))
 
 pub chained-spec : {M : Type 1} → statement M
 chained-spec =
-    tie.close
-    (tie.spec
+    tie.close (tie.spec
     Inv-loop
     μ-loop
     Inv-loop2
@@ -261,35 +268,40 @@ chained-spec =
     loop-holds
     mark-at-requires
     mul-c
-    array-read-c
-    slice-aggregate-in-chain
-    slice-aggregate-in-chain-2
+    slice-read-c
     from-u16-requires
     in-chain-requires
+    same-length
+    same-length-2
+    same-length-3
     returns
     cast-place
     mul-place
-    array-write-place
+    slice-write-place
     mul-prev
-    array-write-prev
+    slice-write-prev
     add-i
     cast-last
     mul-last
-    array-write-last
+    slice-write-last
     next-place-requires
     loop-less
     loop-again
     loop2-holds
     mark-at-requires-2
     mul-c-2
-    array-read-c-2
-    slice-aggregate-in-chain-3
-    slice-aggregate-in-chain-4
+    slice-read-c-2
     from-u16-requires-2
     in-chain-requires-2
+    same-length-4
+    same-length-5
+    same-length-6
     returns-2
     next-place-requires-2
     add-i-2
     loop2-less
     loop2-again
+    same-length-7
+    same-length-8
+    same-length-9
     returns-3)
