@@ -35,23 +35,20 @@ abbrev μ-loop2 : tie.MeasureT-loop2
 -- within a loop the thing at `at` is within the bytes
 inside : (c : tie.In-loop Inv-loop μ-loop Inv-loop2 μ-loop2) → let a = c .before .before .before .before .before .before .args in nextIn (a .h) (a .f) (a .s .now) (c .before .loop .at) ≤ length (a .s .now)
 inside c =
-    let e = c .before .before .before .before .before .before in
-    let a = e .args in
+    let a = c .before .before .before .before .before .before .args in
     let l = c .before .loop in
-    stands-at (a .h) (a .f) (a .s .now) (a .n) (a .first) (l .at) (l .i) (e .pre .0) (l .inv .1) (omega arith)
+    stands-at (a .h) (a .f) (a .s .now) (a .n) (a .first) (l .at) (l .i) (c .before .before .before .before .before .before .pre .0) (l .inv .1) (omega arith)
 
 inside2 : (c : tie.In-loop2 Inv-loop μ-loop Inv-loop2 μ-loop2) → let a = c .before .before .before .before .before .before .before .before .args in nextIn (a .h) (a .f) (a .s .now) (c .before .loop2 .at) ≤ length (a .s .now)
 inside2 c =
-    let e = c .before .before .before .before .before .before .before .before in
-    let a = e .args in
+    let a = c .before .before .before .before .before .before .before .before .args in
     let l = c .before .loop2 in
-    stands-at (a .h) (a .f) (a .s .now) (a .n) (a .first) (l .at) (l .i) (e .pre .0) (l .inv .2) (omega arith)
+    stands-at (a .h) (a .f) (a .s .now) (a .n) (a .first) (l .at) (l .i) (c .before .before .before .before .before .before .before .before .pre .0) (l .inv .2) (omega arith)
 
 loop-holds : tie.Need-loop-holds Inv-loop μ-loop Inv-loop2 μ-loop2
 loop-holds c =
-    let e = c .before .before .before .before in
-    let a = e .args in
-    let w = chaining-none (keyIn (a .h) (a .s .now)) (nextIn (a .h) (a .f) (a .s .now)) (a .first) (a .m) _ _ _ (e .pre .4) in
+    let a = c .before .before .before .before .args in
+    let w = chaining-none (keyIn (a .h) (a .s .now)) (nextIn (a .h) (a .f) (a .s .now)) (a .first) (a .m) _ _ _ (c .before .before .before .before .pre .4) in
     (omega arith, unfold nth in refl, w, λ j k p q r. absurd (omega arith), refl, refl, refl)
 
 mark-at-requires : tie.Need-mark-at-requires Inv-loop μ-loop Inv-loop2 μ-loop2
@@ -72,10 +69,9 @@ in-chain-requires c κs =
     let a = e .args in
     let l = c .before .before .before .before .before .before .loop in
     let t = inside (c .before .before .before .before .before) in
-    let w =
-    chaining-linked (a .h) (a .f) (a .s .now) (a .first) (a .n) (a .m) (l .last) (l .prev) (l .place) (l .i)
-    (c .before .before .before .before .mark-at .result) _ (l .inv .2) (e .pre .0 .0) (omega arith) (omega arith)
-    (omega arith) (c .before .before .before .before .mark-at .ensures .1) (c .from-u16 .ensures) in
+    let w = chaining-linked (a .h) (a .f) (a .s .now) (a .first) (a .n) (a .m) (l .last) (l .prev) (l .place) (l .i)
+    (c .before .before .before .before .mark-at .result) _ (l .inv .2) (e .pre .0 .0) (omega arith) (omega arith) (omega arith)
+    (c .before .before .before .before .mark-at .ensures .1) (c .from-u16 .ensures) in
     (w, omega arith, omega arith, omega arith)
 
 same-length : tie.Need-same-length Inv-loop μ-loop Inv-loop2 μ-loop2
@@ -91,11 +87,10 @@ returns : tie.Need-returns Inv-loop μ-loop Inv-loop2 μ-loop2
 returns c =
     let a = c .before .before .before .before .before .before .before .before .before .before .before .before .before .args in
     let l = c .before .before .before .before .before .before .before .before .loop in
-    let found =
-    chain-says (a .h) (a .f) (a .s .now) (a .first) (a .m) (l .last) (l .prev) (l .place) (l .i) (l .i) (l .at) _ _ _ true
-    (l .inv .2) (l .inv .1) (c .before .before .before .before .before .before .mark-at .ensures .0)
-    (c .before .before .before .before .before .before .mark-at .ensures .1)
-    (c .before .before .from-u16 .ensures) (c .before .in-chain .ensures) (c .if1 .taken) in
+    let found = chain-says (a .h) (a .f) (a .s .now) (a .first) (a .m) (l .last) (l .prev) (l .place) (l .i) (l .i) (l .at) _ _ _ true (l .inv .2)
+    (l .inv .1) (c .before .before .before .before .before .before .mark-at .ensures .0)
+    (c .before .before .before .before .before .before .mark-at .ensures .1) (c .before .before .from-u16 .ensures) (c .before .in-chain .ensures)
+    (c .if1 .taken) in
     chained-refused (a .h) (a .f) (a .s .now) (a .first) (a .m) (a .n)
     (twice-now (keysFrom (a .h) (a .f) (a .s .now) (a .first)) (a .n) (l .i) (l .i) found (omega arith) (omega arith))
 
@@ -138,11 +133,10 @@ loop-again : tie.Need-loop-again Inv-loop μ-loop Inv-loop2 μ-loop2
 loop-again c =
     let a = c .before .before .before .before .before .before .before .before .before .before .before .before .before .before .args in
     let l = c .before .before .before .before .before .before .before .before .before .loop in
-    let found =
-    chain-says (a .h) (a .f) (a .s .now) (a .first) (a .m) (l .last) (l .prev) (l .place) (l .i) (l .i) (l .at) _ _ _ false
-    (l .inv .2) (l .inv .1) (c .before .before .before .before .before .before .before .mark-at .ensures .0)
-    (c .before .before .before .before .before .before .before .mark-at .ensures .1)
-    (c .before .before .before .from-u16 .ensures) (c .before .before .in-chain .ensures) (c .before .if1 .left) in
+    let found = chain-says (a .h) (a .f) (a .s .now) (a .first) (a .m) (l .last) (l .prev) (l .place) (l .i) (l .i) (l .at) _ _ _ false (l .inv .2)
+    (l .inv .1) (c .before .before .before .before .before .before .before .mark-at .ensures .0)
+    (c .before .before .before .before .before .before .before .mark-at .ensures .1) (c .before .before .before .from-u16 .ensures)
+    (c .before .before .in-chain .ensures) (c .before .if1 .left) in
     let next : ℕ → ℕ = nextIn (a .h) (a .f) (a .s .now) in (
       omega arith,
       c .next-place .ensures ∙ ap next (l .inv .1) ∙ sym (nth-more next (l .i) (a .first)),
@@ -187,10 +181,9 @@ in-chain-requires-2 c κs =
     let l = c .before .before .before .before .before .before .loop2 in
     let t = inside2 (c .before .before .before .before .before) in
     let o = c .before .before .before .before .before .before .before .before .loop in
-    let w =
-    chaining-linked (a .h) (a .f) (a .s .now) (a .first) (a .n) (a .m) (o .last) (o .prev) (o .place) (a .m)
-    (c .before .before .before .before .mark-at2 .result) _ (l .inv .4) (e .pre .0 .0) (omega arith)
-    (omega arith) (omega arith) (c .before .before .before .before .mark-at2 .ensures .1) (c .from-u162 .ensures) in
+    let w = chaining-linked (a .h) (a .f) (a .s .now) (a .first) (a .n) (a .m) (o .last) (o .prev) (o .place) (a .m)
+    (c .before .before .before .before .mark-at2 .result) _ (l .inv .4) (e .pre .0 .0) (omega arith) (omega arith) (omega arith)
+    (c .before .before .before .before .mark-at2 .ensures .1) (c .from-u162 .ensures) in
     (w, omega arith, omega arith, omega arith)
 
 same-length-4 : tie.Need-same-length-4 Inv-loop μ-loop Inv-loop2 μ-loop2
@@ -207,11 +200,10 @@ returns-2 c =
     let a = c .before .before .before .before .before .before .before .before .before .before .before .before .before .before .before .args in
     let l = c .before .before .before .before .before .before .before .before .loop2 in
     let o = c .before .before .before .before .before .before .before .before .before .before .loop in
-    let found =
-    chain-says (a .h) (a .f) (a .s .now) (a .first) (a .m) (o .last) (o .prev) (o .place) (a .m) (l .i) (l .at) _ _ _ true
-    (l .inv .4) (l .inv .2) (c .before .before .before .before .before .before .mark-at2 .ensures .0)
-    (c .before .before .before .before .before .before .mark-at2 .ensures .1)
-    (c .before .before .from-u162 .ensures) (c .before .in-chain2 .ensures) (c .if2 .taken) in
+    let found = chain-says (a .h) (a .f) (a .s .now) (a .first) (a .m) (o .last) (o .prev) (o .place) (a .m) (l .i) (l .at) _ _ _ true (l .inv .4)
+    (l .inv .2) (c .before .before .before .before .before .before .mark-at2 .ensures .0)
+    (c .before .before .before .before .before .before .mark-at2 .ensures .1) (c .before .before .from-u162 .ensures) (c .before .in-chain2 .ensures)
+    (c .if2 .taken) in
     chained-refused (a .h) (a .f) (a .s .now) (a .first) (a .m) (a .n)
     (twice-now (keysFrom (a .h) (a .f) (a .s .now) (a .first)) (a .n) (l .i) (a .m) found (omega arith) (omega arith))
 
@@ -229,11 +221,10 @@ loop2-again c =
     let a = c .before .before .before .before .before .before .before .before .before .before .before .before .before .before .before .before .args in
     let l = c .before .before .before .before .before .before .before .before .before .loop2 in
     let o = c .before .before .before .before .before .before .before .before .before .before .before .loop in
-    let found =
-    chain-says (a .h) (a .f) (a .s .now) (a .first) (a .m) (o .last) (o .prev) (o .place) (a .m) (l .i) (l .at) _ _ _ false
-    (l .inv .4) (l .inv .2) (c .before .before .before .before .before .before .before .mark-at2 .ensures .0)
-    (c .before .before .before .before .before .before .before .mark-at2 .ensures .1)
-    (c .before .before .before .from-u162 .ensures) (c .before .before .in-chain2 .ensures) (c .before .if2 .left) in
+    let found = chain-says (a .h) (a .f) (a .s .now) (a .first) (a .m) (o .last) (o .prev) (o .place) (a .m) (l .i) (l .at) _ _ _ false (l .inv .4)
+    (l .inv .2) (c .before .before .before .before .before .before .before .mark-at2 .ensures .0)
+    (c .before .before .before .before .before .before .before .mark-at2 .ensures .1) (c .before .before .before .from-u162 .ensures)
+    (c .before .before .in-chain2 .ensures) (c .before .if2 .left) in
     let next : ℕ → ℕ = nextIn (a .h) (a .f) (a .s .now) in (
       omega arith,
       omega arith,
