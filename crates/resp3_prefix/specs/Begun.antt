@@ -1,7 +1,7 @@
 -- How far a value stands in bytes that may end inside it: where it ends, or the least number of bytes that it still lacks, or that none begins so. Read off
 -- the bytes from a place on, as the reader computes it. Assumes nothing: these are definitions.
 -- Nobody has to believe them: specs/Law.antt shows that they agree with specs/Meaning.antt.
-use mathlib.Core.Bool.{Bool, cond}
+use mathlib.Core.Bool.{cond}
 use Prim.Native.Nat.{ℕ, zero, suc, _+_, _*_, _-_}
 use lib.Dec.{leb, eqb}
 use lib.ListN.{length, getD, take, drop}

@@ -1,7 +1,7 @@
 -- Worked cases of beginnings, by computing: each kind cut at each kind of place, the limits of numbers, depth and bytes. They lean on Begun.antt alone, so that
 -- a wrong definition there fails here first. Assumes nothing.
 use mathlib.Core.Path.{_≡_, refl}
-use mathlib.Core.List.{[], _∷_, _++_}
+use mathlib.Core.List.{[], _++_}
 use Prim.Native.Nat.{ℕ, zero, suc}
 use Rattle.buffer.specs.Ascii.{ascii}
 use Rattle.buffer.specs.Same.{Bytes}

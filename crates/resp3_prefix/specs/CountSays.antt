@@ -1,16 +1,14 @@
 -- What is read of a number is what stands there. Assumes nothing.
-use mathlib.Core.Path.{_≡_, refl, sym, ap, _∙_, subst}
-use mathlib.Core.Bool.{Bool, true, false, cond}
+use mathlib.Core.Path.{_≡_, sym, ap, _∙_, subst}
 use mathlib.Core.List.{[], _∷_, _++_, append-nil, append-assoc}
-use Prim.Native.Nat.{ℕ, _+_, _-_, _≤_, _<_}
+use Prim.Native.Nat.{ℕ, _+_, _≤_, _<_}
 use native.Mathlib.Omega.{arith}
 use lib.Dec.{leb, eqb}
 use lib.ListN.{length, getD, drop, length-append, length-drop, List·getD-append, drop-of-length-le}
 use lib.Seq.{drop-append-le, getD-at}
-use borrow.Author.Tests.{leb-true, leb-false, eqb-true, eqb-false, eq-eqb}
+use borrow.Author.Tests.{leb-true, leb-false, eqb-true, eqb-false}
 use Rattle.buffer.specs.Cases.{byTest}
 use Rattle.buffer.specs.Same.{Bytes}
-use Rattle.buffer.specs.Places.{inside}
 use Rattle.decimal.specs.Digits.{digits}
 use Rattle.decimal.specs.Read.{digitB, crlfB, lead, valAcc, endedDef, finDef, numDef}
 use Rattle.decimal.specs.ReadLaws.{fin-within, num-zero, num-more, num-bounds}

@@ -1,26 +1,21 @@
 -- Numbers of which a beginning stands in the bytes: what is read of them, in both directions. Assumes nothing.
 use mathlib.Core.Path.{_≡_, refl, sym, ap, _∙_}
-use mathlib.Core.Bool.{true, false, cond}
-use mathlib.Core.List.{[], _∷_, _++_, append-nil, append-assoc}
+use mathlib.Core.List.{[], _∷_, _++_, append-nil}
 use Prim.Native.Nat.{ℕ, zero, suc, _+_, _*_, _-_, _/_, _%_, _≤_, _<_}
 use native.Mathlib.Omega.{arith}
 use lib.Dec.{leb, eqb}
-use lib.ListN.{length, getD, drop, length-append, length-drop, List·getD-append, drop-of-length-le}
-use lib.Seq.{drop-append-le, getD-append-add}
-use borrow.Author.Tests.{leb-true, leb-false, le-leb, lt-leb, eqb-true, eqb-false, eq-eqb, ne-eqb}
+use lib.ListN.{length, getD, drop, length-append, length-drop}
+use borrow.Author.Tests.{leb-true, leb-false, eqb-true, eqb-false}
 use Rattle.buffer.specs.Cases.{byTest}
 use Rattle.buffer.specs.Same.{Bytes}
 use Rattle.buffer.specs.Places.{inside, first, after, getD-drop0}
 use Rattle.decimal.specs.Digits.{digits, digits-one, digits-more}
 use Rattle.decimal.specs.DigitLaws.{digits-cases, count-pos}
-use Rattle.decimal.specs.Read.{digitB, crlfB, lead, valAcc, endedDef, finDef, numDef}
-use Rattle.decimal.specs.ReadLaws.{fin-within, num-zero, num-more, num-says, num-bounds}
+use Rattle.decimal.specs.Read.{digitB, lead, valAcc}
+use Rattle.decimal.specs.ReadLaws.{num-says}
 use Rattle.decimal.specs.NumLaw.{num-law}
-use Rattle.decimal.specs.NumSound.{num-sound}
-use Rattle.decimal.specs.declared.Num.the-variants.{Val}
 use Rattle.resp3.specs.Value.{counted}
-use Rattle.resp3_prefix.specs.declared.Count.{Count}
-use Rattle.resp3_prefix.specs.declared.Count.the-variants.{Whole, Nothing, Digits, Ended, Never as NoCount}
+use Rattle.resp3_prefix.specs.declared.Count.the-variants.{Whole, Nothing, Digits, Ended}
 use Rattle.resp3_prefix.specs.Begun.{countEnd, countBegun}
 use Rattle.resp3_prefix.specs.Paths as paths
 use Rattle.resp3_prefix.specs.Split.{cut, none-left}

@@ -2,12 +2,12 @@
 use mathlib.Core.Path.{_≡_, refl, sym, ap, _∙_}
 use mathlib.Core.Bool.{Bool, true, false, cond}
 use mathlib.Core.List.{[], _∷_, _++_, append-assoc, append-nil}
-use Prim.Native.Nat.{ℕ, zero, suc, _+_, _*_, _-_, _≤_, _<_}
+use Prim.Native.Nat.{ℕ, suc, _+_, _*_, _-_, _≤_, _<_}
 use native.Mathlib.Omega.{arith}
-use lib.Dec.{leb, eqb}
-use lib.ListN.{length, getD, take, drop, length-append, length-drop, List·getD-append, drop-of-length-le}
+use lib.Dec.{leb}
+use lib.ListN.{length, getD, drop, length-append, length-drop, List·getD-append, drop-of-length-le}
 use lib.IntN.{ℤ, pos, negsuc}
-use borrow.Author.Tests.{leb-true, leb-false, eqb-true, eqb-false}
+use borrow.Author.Tests.{leb-true, leb-false}
 use Rattle.buffer.specs.Cases.{byTest}
 use Rattle.buffer.specs.Same.{Bytes}
 use Rattle.buffer.specs.Places.{getD-drop0, getD-out, first, after, step}
@@ -18,10 +18,7 @@ use Rattle.decimal.specs.NumLaw.{head-ge}
 use Rattle.resp3.specs.Value.{crlf, counted, framed, integer, plainB, oneLine, Fits64}
 use Rattle.resp3.specs.Ends.{plain}
 use Rattle.resp3_prefix.specs.declared.Begun.{Begun}
-use Rattle.resp3_prefix.specs.declared.Begun.the-variants.{Ends, Lacks, Never}
-use Rattle.resp3_prefix.specs.declared.Count.{Count}
-use Rattle.resp3_prefix.specs.declared.Count.the-variants.{Whole, Nothing, Digits, Ended}
-use Rattle.resp3_prefix.specs.Begun.{crlfBegun, countBegun, lineBegun, blobOf, blobBegun, verbatimBody, verbatimDigits, verbatimOf, verbatimBegun, digitsOf, minusOf, integerBegun, booleanBegun}
+use Rattle.resp3_prefix.specs.Begun.{crlfBegun, countBegun, lineBegun, blobBegun, verbatimBody, verbatimDigits, verbatimBegun, digitsOf, minusOf, integerBegun, booleanBegun}
 use Rattle.resp3_prefix.specs.Paths as paths
 use Rattle.resp3_prefix.specs.Split.{cut}
 use Rattle.resp3_prefix.specs.Counts.{Stands, whole, nothing, digits-all, digits-some, ended, stands}

@@ -1,11 +1,10 @@
 -- Bytes that end inside a valid value are found to lack no more than the value has behind them: rows, and whole values. Assumes nothing.
-use mathlib.Core.Path.{_≡_, refl, sym, ap, _∙_, subst}
-use mathlib.Core.Bool.{Bool, true, false, cond}
-use mathlib.Core.List.{[], _∷_, _++_, append-assoc}
-use Prim.Native.Nat.{ℕ, zero, suc, _+_, _*_, _-_, _≤_, _<_, max}
+use mathlib.Core.Path.{_≡_, sym, ap, _∙_, subst}
+use mathlib.Core.List.{[], _++_}
+use Prim.Native.Nat.{ℕ, suc, _+_, _*_, _-_, _≤_, _<_}
 use native.Mathlib.Omega.{arith}
 use lib.Dec.{leb, eqb}
-use lib.ListN.{length, getD, drop, length-append, length-drop}
+use lib.ListN.{length, drop, length-append}
 use lib.IntN.{ℤ, pos, negsuc}
 use borrow.Author.Tests.{leb-true, leb-false, eqb-true, eqb-false}
 use Rattle.buffer.specs.Cases.{byTest}
@@ -13,24 +12,19 @@ use Rattle.buffer.specs.Same.{Bytes}
 use Rattle.config.specs.Limits.{maxBytes}
 use Rattle.decimal.specs.Digits.{digits}
 use Rattle.decimal.specs.DigitLaws.{count-pos}
-use Rattle.resp3.specs.declared.Kind.{Kind}
-use Rattle.resp3.specs.declared.Kind.the-variants.{BlobString, SimpleString, SimpleError, Number, Null, Double, Boolean, BlobError, VerbatimString, BigNumber, Array, Map, Set, Attribute, Push}
-use Rattle.resp3.specs.Kinds.{byteOf, kindOf}
-use Rattle.resp3.specs.KindLaws.{kind-byte}
-use Rattle.resp3.specs.Value.{Value, Values, Pairs, blobString, simpleString, simpleError, number, null, double, boolean, blobError, verbatimString, bigNumber, array, map, set, attribute, push, none, more, count, countPairs, below, deepest, deepestPairs, depth, Valid, Valids, ValidPairs, crlf, counted, framed, integer, enc, encs, encPairs, encode}
-use Rattle.resp3.specs.Rows.{longer, room, roomPairs, flat, flat-enc, flat-count, flat-valid, flat-deep}
+use Rattle.resp3.specs.Value.{Value, Values, blobString, simpleString, simpleError, number, null, double, boolean, blobError, verbatimString, bigNumber, array, map, set, attribute, push, none, more, count, deepest, depth, Valid, Valids, crlf, counted, integer, enc, encs}
+use Rattle.resp3.specs.Rows.{longer, room, roomPairs}
 use Rattle.resp3.specs.Complete.{read-law}
-use Rattle.resp3_prefix.specs.declared.Begun.{Begun}
-use Rattle.resp3_prefix.specs.declared.Begun.the-variants.{Ends, Lacks, Never}
+use Rattle.resp3_prefix.specs.declared.Begun.the-variants.{Ends, Lacks}
 use Rattle.resp3_prefix.specs.declared.Count.{Count}
-use Rattle.resp3_prefix.specs.Begun.{lackingRow, lackingBelow, countBegun, aloneOf, rowOf, bodyBegun, headThen, begunThen, valueBegun, rowBegun}
+use Rattle.resp3_prefix.specs.Begun.{lackingRow, lackingBelow, countBegun, aloneOf, rowOf, headThen, valueBegun, rowBegun}
 use Rattle.resp3_prefix.specs.Paths as paths
 use Rattle.resp3_prefix.specs.Split.{cut}
 use Rattle.resp3_prefix.specs.Counts.{Stands, whole, nothing, digits-all, digits-some, ended, stands}
 use Rattle.resp3_prefix.specs.Pieces.{Early, lacks}
 use Rattle.resp3_prefix.specs.SameRows.{alone-is, value-agree}
 use Rattle.resp3_prefix.specs.FoundRows.{enc-more}
-use Rattle.resp3_prefix.specs.Early.{early-as, open-byte, line-early, blob-early, verbatim-early, integer-early, crlf-early, boolean-early}
+use Rattle.resp3_prefix.specs.Early.{early-as}
 
 -- ---- every value has three bytes at least
 

@@ -1,7 +1,7 @@
 -- Bytes that end inside a valid value are found to lack no more than the value has behind them: whole values. Assumes nothing.
 use mathlib.Core.Path.{_≡_, refl, sym, ap, _∙_}
 use mathlib.Core.List.{[], _∷_, _++_}
-use Prim.Native.Nat.{ℕ, zero, suc, _+_, _*_, _-_, _≤_, _<_, max}
+use Prim.Native.Nat.{ℕ, zero, suc, _+_, _-_, _≤_, _<_}
 use native.Mathlib.Omega.{arith}
 use lib.ListN.{length, getD, drop, length-append}
 use Rattle.buffer.specs.Same.{Bytes}
@@ -10,10 +10,9 @@ use Rattle.resp3.specs.declared.Kind.{Kind}
 use Rattle.resp3.specs.declared.Kind.the-variants.{BlobString, SimpleString, SimpleError, Number, Null, Double, Boolean, BlobError, VerbatimString, BigNumber, Array, Map, Set, Attribute, Push}
 use Rattle.resp3.specs.Kinds.{byteOf, kindOf}
 use Rattle.resp3.specs.KindLaws.{kind-byte}
-use Rattle.resp3.specs.Value.{Value, Values, Pairs, blobString, simpleString, simpleError, number, null, double, boolean, blobError, verbatimString, bigNumber, array, map, set, attribute, push, none, more, count, countPairs, below, deepest, deepestPairs, depth, Valid, Valids, ValidPairs, crlf, counted, enc, encs, encPairs}
+use Rattle.resp3.specs.Value.{Value, Values, Pairs, blobString, simpleString, simpleError, number, null, double, boolean, blobError, verbatimString, bigNumber, array, map, set, attribute, push, none, more, count, countPairs, below, deepest, deepestPairs, depth, Valid, Valids, ValidPairs, counted, enc, encs, encPairs}
 use Rattle.resp3.specs.Rows.{flat, flat-enc, flat-count, flat-valid, flat-deep}
-use Rattle.resp3_prefix.specs.declared.Begun.the-variants.{Lacks}
-use Rattle.resp3_prefix.specs.Begun.{countBegun, aloneOf, rowOf, bodyBegun, headThen, valueBegun, rowBegun}
+use Rattle.resp3_prefix.specs.Begun.{countBegun, rowOf, bodyBegun, headThen, valueBegun, rowBegun}
 use Rattle.resp3_prefix.specs.Paths as paths
 use Rattle.resp3_prefix.specs.Pieces.{Early, lacks}
 use Rattle.resp3_prefix.specs.SameRows.{alone-is}

@@ -1,27 +1,26 @@
 -- Bytes that lack k begin the bytes of something valid, which is exactly k longer: values with none inside. Assumes nothing.
-use mathlib.Core.Path.{_≡_, refl, sym, ap, _∙_, subst}
+use mathlib.Core.Path.{_≡_, refl, sym, ap, _∙_}
 use mathlib.Core.Bool.{Bool, true, false, cond}
 use mathlib.Core.List.{[], _∷_, _++_, append-assoc}
-use Prim.Native.Nat.{ℕ, zero, suc, _+_, _*_, _-_, _/_, _%_, _≤_, _<_}
+use Prim.Native.Nat.{ℕ, suc, _+_, _-_, _≤_, _<_}
 use native.Mathlib.Omega.{arith}
 use lib.Dec.{leb, eqb}
 use lib.ListN.{length, getD, take, drop, replicate, length-append, length-drop, length-replicate, take-append-drop, drop-of-length-le}
 use lib.IntN.{ℤ, pos, negsuc}
-use lib.Seq.{drop-drop, length-take-le, take-all}
+use lib.Seq.{drop-drop, take-all}
 use borrow.Author.Tests.{leb-true, leb-false, eqb-true, eqb-false}
 use Rattle.buffer.specs.Cases.{byTest}
 use Rattle.buffer.specs.Same.{Bytes}
 use Rattle.buffer.specs.Places.{inside, step}
 use Rattle.config.specs.Limits.{maxBytes}
-use Rattle.decimal.specs.Digits.{digits, digits-more}
+use Rattle.decimal.specs.Digits.{digits}
 use Rattle.decimal.specs.NumSound.{num-sound}
 use Rattle.resp3.specs.Value.{crlf, counted, framed, integer, oneLine, Fits64}
 use Rattle.resp3.specs.Ends.{plain}
-use Rattle.resp3_prefix.specs.declared.Begun.{Begun}
 use Rattle.resp3_prefix.specs.declared.Begun.the-variants.{Ends, Lacks, Never}
 use Rattle.resp3_prefix.specs.declared.Count.{Count}
 use Rattle.resp3_prefix.specs.declared.Count.the-variants.{Whole, Nothing, Digits, Ended, Never as NoCount}
-use Rattle.resp3_prefix.specs.Begun.{crlfBegun, countBegun, lineBegun, blobOf, blobBegun, verbatimBody, verbatimDigits, verbatimOf, verbatimBegun, digitsOf, minusOf, integerBegun, booleanBegun}
+use Rattle.resp3_prefix.specs.Begun.{crlfBegun, countBegun, lineBegun, blobOf, blobBegun, digitsOf, minusOf, integerBegun, booleanBegun}
 use Rattle.resp3_prefix.specs.Split.{none-left}
 use Rattle.resp3_prefix.specs.CountSays.{count-says, whole-bounds}
 use Rattle.resp3_prefix.specs.Pieces.{crlf-lacks, frame-found, plain-line, plain-within}

@@ -1,9 +1,8 @@
 -- Bytes that lack k begin a value's bytes, which are exactly k longer: rows, and whole values. Assumes nothing.
 use mathlib.Core.Path.{_≡_, refl, sym, ap, _∙_, subst}
 use mathlib.Core.Logic.{⊎-elim}
-use mathlib.Core.Bool.{true, false, cond}
 use mathlib.Core.List.{[], _∷_, _++_, append-assoc}
-use Prim.Native.Nat.{ℕ, zero, suc, _+_, _*_, _-_, _≤_, _<_, max}
+use Prim.Native.Nat.{ℕ, zero, suc, _+_, _*_, _≤_, _<_}
 use native.Mathlib.Omega.{arith}
 use lib.Dec.{leb, eqb}
 use lib.ListN.{length, getD, drop, length-append, drop-of-length-le}
@@ -24,8 +23,6 @@ use Rattle.resp3_prefix.specs.declared.Begun.{Begun}
 use Rattle.resp3_prefix.specs.declared.Begun.the-variants.{Ends, Lacks, Never}
 use Rattle.resp3_prefix.specs.declared.Count.{Count}
 use Rattle.resp3_prefix.specs.declared.Count.the-variants.{Whole, Nothing, Digits, Ended, Never as NoCount}
-use Rattle.resp3_prefix.specs.declared.Opened.{Opened}
-use Rattle.resp3_prefix.specs.declared.Opened.the-variants.{Of, Lacks as LacksHead, Never as NoHead}
 use Rattle.resp3_prefix.specs.Begun.{lacking, lackingRow, lackingBelow, countBegun, aloneOf, rowOf, bodyBegun, headBegun, headThen, begunThen, iter, valueBegun, rowBegun}
 use Rattle.resp3_prefix.specs.CountSays.{count-says, whole-bounds}
 use Rattle.resp3_prefix.specs.SameRows.{alone-is, end-bounds, value-agree}

@@ -1,6 +1,5 @@
 -- Verbatim strings of which a beginning stands in the bytes: some string begins so, and is as much longer as is said. Assumes nothing.
 use mathlib.Core.Path.{_≡_, refl, sym, ap, _∙_}
-use mathlib.Core.Bool.{true, false, cond}
 use mathlib.Core.List.{[], _∷_, _++_, append-assoc}
 use Prim.Native.Nat.{ℕ, _+_, _*_, _-_, _/_, _%_, _≤_, _<_}
 use native.Mathlib.Omega.{arith}
@@ -14,7 +13,7 @@ use Rattle.buffer.specs.Places.{step}
 use Rattle.config.specs.Limits.{maxBytes}
 use Rattle.decimal.specs.Digits.{digits, digits-more}
 use Rattle.resp3.specs.Value.{crlf, counted, framed}
-use Rattle.resp3_prefix.specs.declared.Begun.the-variants.{Lacks, Never}
+use Rattle.resp3_prefix.specs.declared.Begun.the-variants.{Lacks}
 use Rattle.resp3_prefix.specs.declared.Count.{Count}
 use Rattle.resp3_prefix.specs.declared.Count.the-variants.{Whole, Nothing, Digits, Ended, Never as NoCount}
 use Rattle.resp3_prefix.specs.Begun.{crlfBegun, countBegun, verbatimBody, verbatimDigits, verbatimOf, verbatimBegun}

@@ -3,8 +3,7 @@
 -- Assumes nothing.
 use mathlib.Core.Path.{_≡_, refl, sym, ap, _∙_, subst}
 use mathlib.Core.Logic.{_↔_}
-use mathlib.Core.Bool.{Bool, true, false, cond}
-use mathlib.Core.List.{[], _∷_, _++_, append-assoc, append-nil}
+use mathlib.Core.List.{[], _++_, append-assoc, append-nil}
 use Prim.Native.Nat.{ℕ, _+_, _-_, _≤_, _<_}
 use native.Mathlib.Omega.{arith}
 use lib.Dec.{leb, eqb}
@@ -15,7 +14,7 @@ use Rattle.buffer.specs.Cases.{byTest}
 use Rattle.buffer.specs.Same.{Bytes}
 use Rattle.config.specs.Limits.{maxBytes, maxDepth}
 use Rattle.resp3.specs.declared.End.the-variants.{At}
-use Rattle.resp3.specs.Value.{Value, Valid, depth, enc, encode}
+use Rattle.resp3.specs.Value.{encode}
 use Rattle.resp3.specs.Rows.{enc-is}
 use Rattle.resp3.specs.Ends.{valueEnd}
 use Rattle.resp3.specs.Complete.{read-law}
@@ -23,7 +22,7 @@ use Rattle.resp3.specs.Sound.{end-sound}
 use Rattle.resp3_prefix.specs.declared.Begun.{Begun}
 use Rattle.resp3_prefix.specs.declared.Begun.the-variants.{Ends, Lacks, Never}
 use Rattle.resp3_prefix.specs.Begun.{valueBegun, within, firstValue}
-use Rattle.resp3_prefix.specs.Meaning.{Within, Complete, Begins, NoneComplete, NoneBegins}
+use Rattle.resp3_prefix.specs.Meaning.{Complete, Begins, NoneComplete, NoneBegins}
 use Rattle.resp3_prefix.specs.Split.{cut, none-left}
 use Rattle.resp3_prefix.specs.Same.{lacks-no-end, never-no-end, same-end}
 use Rattle.resp3_prefix.specs.SameRows.{end-bounds, value-agree}

@@ -1,14 +1,14 @@
 -- Values that hold others, made of a row of values: arrays, sets, pushes, maps and attributes. Assumes nothing.
 use mathlib.Core.Path.{_≡_, refl, sym, ap, ap₂, _∙_, subst}
-use mathlib.Core.List.{[], _∷_, _++_}
-use Prim.Native.Nat.{ℕ, zero, suc, _+_, _*_, _≤_, max}
+use mathlib.Core.List.{[], _∷_}
+use Prim.Native.Nat.{ℕ, zero, suc, _+_, _*_, _≤_}
 use native.Mathlib.Omega.{arith}
 use lib.ListN.{length}
 use Rattle.buffer.specs.Same.{Bytes}
 use Rattle.resp3.specs.declared.Kind.{Kind}
 use Rattle.resp3.specs.declared.Kind.the-variants.{Array, Map, Set, Attribute, Push}
 use Rattle.resp3.specs.Kinds.{byteOf}
-use Rattle.resp3.specs.Value.{Value, Values, Pairs, null, array, map, set, attribute, push, none, more, count, countPairs, below, deepest, deepestPairs, Valid, Valids, ValidPairs, counted, enc, encs, encPairs}
+use Rattle.resp3.specs.Value.{Value, Values, null, array, map, set, attribute, push, none, more, count, countPairs, below, deepest, deepestPairs, Valid, Valids, ValidPairs, counted, enc, encs, encPairs}
 use Rattle.resp3.specs.Rows.{flat, flat-enc, valid-flat, deep-flat, headOf, pairUp, skip, paired, row-none, row-one}
 
 -- a kind that holds values behind a count n, a * n + b of them

@@ -1,6 +1,6 @@
 -- One equation for each way through the reader's code, by which the proofs of its functions go. Assumes nothing.
+-- (Where a definition changes, a worked case is to say so first: this file cites one.)
 use mathlib.Core.Path.{_≡_, refl, sym, ap, _∙_}
-use mathlib.Core.Bool.{true, false, cond}
 use Prim.Native.Nat.{ℕ, zero, suc, _+_, _*_, _-_, _≤_, _<_, min}
 use native.Mathlib.Omega.{arith}
 use lib.Dec.{leb, eqb}
@@ -20,8 +20,9 @@ use Rattle.resp3_prefix.specs.declared.Begun.the-variants.{Ends, Lacks, 
 use Rattle.resp3_prefix.specs.declared.Count.{Count}
 use Rattle.resp3_prefix.specs.declared.Count.the-variants.{Whole, Nothing, Digits, Ended, Never as NoCount}
 use Rattle.resp3_prefix.specs.declared.Opened.{Opened}
-use Rattle.resp3_prefix.specs.declared.Opened.the-variants.{Of, Lacks as LacksHead, Never as NoHead}
+use Rattle.resp3_prefix.specs.declared.Opened.the-variants.{Lacks as LacksHead}
 use Rattle.resp3_prefix.specs.Begun.{lacking, lackingRow, lackingBelow, crlfBegun, countEnd, countBegun, lineBegun, blobOf, blobBegun, verbatimBody, verbatimDigits, verbatimOf, verbatimBegun, digitsOf, minusOf, integerBegun, booleanBegun, bodyBegun, headBegun, headThen, begunThen, iter, valueBegun, rowBegun, within, firstValue}
+use Rattle.resp3_prefix.specs.Cases.{depth-17}
 
 -- ---- sizes
 

@@ -1,19 +1,18 @@
 -- Bytes and CR LF behind them, and lines, of which a beginning stands in the bytes. Assumes nothing.
 use mathlib.Core.Path.{_≡_, refl, sym, ap, _∙_}
-use mathlib.Core.Bool.{Bool, true, false, cond}
-use mathlib.Core.List.{[], _∷_, _++_, append-assoc, append-nil}
+use mathlib.Core.Bool.{Bool, true, false}
+use mathlib.Core.List.{[], _∷_, _++_, append-assoc}
 use Prim.Native.Nat.{ℕ, suc, _+_, _-_, _≤_, _<_}
 use native.Mathlib.Omega.{arith}
 use lib.Dec.{leb, eqb}
 use lib.ListN.{length, getD, take, drop, replicate, length-append, length-drop, length-replicate, take-append-drop}
-use lib.Seq.{drop-drop, take-at, length-take-le, take-all}
+use lib.Seq.{drop-drop, length-take-le}
 use borrow.Author.Tests.{leb-true, leb-false, eqb-true}
 use Rattle.buffer.specs.Cases.{byTest}
 use Rattle.buffer.specs.Same.{Bytes}
 use Rattle.buffer.specs.Places.{first, after, step}
 use Rattle.resp3.specs.Value.{crlf, plainB, oneLine}
-use Rattle.resp3.specs.Ends.{crlfEnd, plain}
-use Rattle.resp3.specs.declared.End.the-variants.{At}
+use Rattle.resp3.specs.Ends.{plain}
 use Rattle.resp3_prefix.specs.declared.Begun.{Begun}
 use Rattle.resp3_prefix.specs.declared.Begun.the-variants.{Ends, Lacks, Never}
 use Rattle.resp3_prefix.specs.Begun.{crlfBegun}

@@ -1,45 +1,35 @@
 -- Where this reader finds a value's end, resp3's reader finds it, and the other way round, in bytes that are no longer than a value may be. So what is
 -- proved of that reader (what it accepts was written, what was written it accepts) holds of this one. Assumes nothing.
-use mathlib.Core.Path.{_≡_, refl, sym, ap, _∙_, subst}
-use mathlib.Core.Logic.{_⊎_, ⊎-elim}
-use mathlib.Core.Bool.{Bool, true, false, cond}
-use mathlib.Core.List.{[], _∷_, _++_}
-use Prim.Native.Nat.{ℕ, zero, suc, _+_, _*_, _-_, _≤_, _<_}
+use mathlib.Core.Path.{_≡_, refl, sym, ap, _∙_}
+use mathlib.Core.Bool.{true, false, cond}
+use Prim.Native.Nat.{ℕ, _+_, _*_, _-_, _≤_, _<_}
 use native.Mathlib.Omega.{arith}
 use lib.Dec.{leb, eqb}
-use lib.ListN.{length, getD, drop, length-drop}
-use borrow.Author.Tests.{leb-true, leb-false, le-leb, lt-leb, eqb-true, eqb-false, eq-eqb, ne-eqb}
+use lib.ListN.{length, getD, drop}
+use borrow.Author.Tests.{leb-true, lt-leb, eqb-true, eqb-false}
 use Rattle.buffer.specs.Cases.{byTest}
 use Rattle.buffer.specs.Same.{Bytes}
 use Rattle.config.specs.Limits.{maxBytes}
 use Rattle.decimal.specs.Digits.{digits}
 use Rattle.decimal.specs.Read.{both, crlfB, numDef}
-use Rattle.decimal.specs.ReadLaws.{both-true, crlf-in}
+use Rattle.decimal.specs.ReadLaws.{crlf-in}
 use Rattle.decimal.specs.NumLaw.{num-law}
 use Rattle.decimal.specs.NumSound.{num-sound}
-use Rattle.decimal.specs.declared.Num.{Num}
-use Rattle.decimal.specs.declared.Num.the-variants.{Val, Bad as BadNum}
-use Rattle.resp3.specs.declared.Kind.{Kind}
-use Rattle.resp3.specs.declared.Kind.the-variants.{BlobString, SimpleString, SimpleError, Number, Null, Double, Boolean, BlobError, VerbatimString, BigNumber, Array, Map, Set, Attribute, Push, Unknown}
+use Rattle.decimal.specs.declared.Num.the-variants.{Val}
 use Rattle.resp3.specs.declared.End.{End}
 use Rattle.resp3.specs.declared.End.the-variants.{At, Bad}
-use Rattle.resp3.specs.Kinds.{shapeOf, kindOf}
-use Rattle.resp3.specs.Value.{enc}
 use Rattle.resp3.specs.Rows.{longer}
-use Rattle.resp3.specs.Ends.{lengthAt, crlfEnd, lineEnd, blobEnd, verbatimEnd, numberEnd, booleanEnd, countOf, bodyHead, headAt, iter, valueEnd, itemsEnd}
+use Rattle.resp3.specs.Ends.{lengthAt, crlfEnd, lineEnd, blobEnd, verbatimEnd, numberEnd, booleanEnd}
 use Rattle.resp3.specs.Ends as ends
 use Rattle.resp3.specs.Paths as paths
 use Rattle.resp3.specs.Says.{not-bad, at-same, crlf-says, num-then}
-use Rattle.resp3.specs.Sound.{end-sound}
 use Rattle.resp3_prefix.specs.declared.Begun.{Begun}
 use Rattle.resp3_prefix.specs.declared.Begun.the-variants.{Ends, Lacks, Never}
 use Rattle.resp3_prefix.specs.declared.Count.{Count}
 use Rattle.resp3_prefix.specs.declared.Count.the-variants.{Whole, Nothing, Digits, Ended, Never as NoCount}
-use Rattle.resp3_prefix.specs.declared.Opened.{Opened}
-use Rattle.resp3_prefix.specs.declared.Opened.the-variants.{Of, Lacks as LacksHead, Never as NoHead}
-use Rattle.resp3_prefix.specs.Begun.{lacking, lackingRow, lackingBelow, crlfBegun, countBegun, lineBegun, blobOf, blobBegun, verbatimBody, verbatimDigits, verbatimOf, verbatimBegun, digitsOf, minusOf, integerBegun, booleanBegun, aloneOf, rowOf, bodyBegun, headBegun, headThen, begunThen, iter as iterBegun, valueBegun, rowBegun}
+use Rattle.resp3_prefix.specs.Begun.{lacking, lackingRow, lackingBelow, crlfBegun, countBegun, lineBegun, blobOf, blobBegun, verbatimBody, verbatimDigits, verbatimOf, verbatimBegun, digitsOf, minusOf, integerBegun, booleanBegun}
 use Rattle.resp3_prefix.specs.Counts.{whole-here}
-use Rattle.resp3_prefix.specs.CountSays.{count-says, whole-bounds}
+use Rattle.resp3_prefix.specs.CountSays.{count-says}
 
 -- ---- answers that are no end
 

@@ -1,6 +1,7 @@
 -- The passes of resolving over no replies find and write what the definitions of Served.antt say. Assumes nothing.
+-- (Where a definition changes, a worked case is to say so first: this file cites one.)
 use mathlib.Core.Path.{_≡_, refl, sym, ap, ap₂, _∙_}
-use mathlib.Core.Bool.{Bool, true, false, cond}
+use mathlib.Core.Bool.{Bool, true, false}
 use mathlib.Core.List.{List, [], _∷_, _++_}
 use mathlib.Core.Option.{Option, some}
 use mathlib.Core.Option as option
@@ -15,7 +16,7 @@ use Rattle.buffer.specs.Part.{part, put, put-put}
 use Rattle.config.specs.Causes.{shortAnswer, badPlan}
 use Rattle.config.specs.declared.CacheMode.{CacheMode}
 use Rattle.config.specs.declared.CacheMode.the-variants.{All, OptIn}
-use Rattle.resp3.specs.Value.{Value, Values, array, none, more, count, encs}
+use Rattle.resp3.specs.Value.{Value, Values, array, none, more, encs}
 use Rattle.planning.specs.Plan as nodes
 use Rattle.plan.specs.Decode.{readPlan, isPlan, decodePlan}
 use Rattle.plan_commands.specs.Commands.{planRead}
@@ -30,7 +31,7 @@ use Rattle.resolve_step.specs.Arms.{empty-stands}
 use Rattle.resolve_pass.specs.declared.Room.{Room}
 use Rattle.resolve_pass.specs.declared.Dry.{Dry}
 use Rattle.resolve_pass.specs.declared.Dry.the-variants.{Fits, Short, Wrong}
-use Rattle.resolve_pass.specs.Passes.{spent, dryIf, dryOf, Starts, Begins, DryIs, answerBytes}
+use Rattle.resolve_pass.specs.Passes.{spent, dryOf, Starts, Begins, DryIs, answerBytes}
 use Rattle.resp3_element.specs.declared.Cursor.{Cursor}
 use Rattle.caching_cmd.specs.Parts.{startAt}
 use Rattle.caching_cmd.specs.Settle.{wholeRoom, dryFor, dry-says, Many}
@@ -38,6 +39,7 @@ use Rattle.caching_cmd.specs.Laws.{PlanRead, plan-read, starts, many-answers}
 use Rattle.served.specs.declared.ServedAnswer.{ServedAnswer}
 use Rattle.served.specs.declared.ServedAnswer.the-variants.{Answered, NeedsReplies, Refused}
 use Rattle.served.specs.Served.{withAnswer, servedAnswers, servedFrom, bufferFrom, servedOf, bufferOf, servedCall, servedBuffer, ServedIs}
+use Rattle.served.specs.Cases.{hands-on}
 
 -- ---- commands and replies
 

@@ -1,6 +1,6 @@
 -- What a plan comes to without replies is what resolving makes of it, whatever the arena, the settings, the clock and the epoch. Assumes nothing.
-use mathlib.Core.Path.{_≡_, refl, sym, ap, _∙_}
-use mathlib.Core.Bool.{Bool, true, false, cond}
+use mathlib.Core.Path.{_≡_, refl, ap, _∙_}
+use mathlib.Core.Bool.{Bool, true, false}
 use mathlib.Core.List.{[]}
 use mathlib.Core.Option.{Option, some}
 use mathlib.Core.Option as option
@@ -21,7 +21,7 @@ use Rattle.resp3.specs.Ends.{isValue}
 use Rattle.resp3.specs.Decode as resp
 use Rattle.resp3.specs.Law.{value-law, decode-law}
 use Rattle.book.specs.Book.{Setup, Row, afterAll, answers}
-use Rattle.book.specs.Calls.{Call, resolving, resolving7, afterCall, refusals, ons, stores, call-defs}
+use Rattle.book.specs.Calls.{resolving, refusals, ons, stores, call-defs}
 use Rattle.arena.specs.Decode.{decode}
 use Rattle.arena.specs.Image.{decode-exact}
 use Rattle.arena.specs.Sequence.{Held, lend, bookOf}
@@ -34,7 +34,7 @@ use Rattle.resolving.specs.Resolve.{Resolved, cause7, answered, resolve, takeCo
 use Rattle.resolving.specs.Result.{resultBytes}
 use Rattle.caching_cmd.specs.declared.ResolveAnswer.{ResolveAnswer}
 use Rattle.caching_cmd.specs.declared.ResolveAnswer.the-variants.{Answered, Refused}
-use Rattle.caching_cmd.specs.Call.{ResolveReturn, returning, fits, toldTo, refusedOf, answerOf, bufferAfter, resolvedOn, planned, imaged, configured, resolveCall}
+use Rattle.caching_cmd.specs.Call.{returning, fits, toldTo, refusedOf, answerOf, bufferAfter, resolvedOn, planned, imaged, configured, resolveCall}
 use Rattle.served.specs.declared.ServedAnswer.{ServedAnswer}
 use Rattle.served.specs.declared.ServedAnswer.the-variants.{Answered as Served, NeedsReplies, Refused as NotServed}
 use Rattle.served.specs.Served.{servedAnswers, servedFrom, bufferFrom, servedOf, bufferOf, servedCall, servedBuffer}
