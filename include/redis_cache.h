@@ -22,6 +22,7 @@
  * A refused call leaves arena, counts and buffers as they were. Only 7 does not: stores of the commands before it remain, and the whole answer buffer
  * is zeroed.
  *
+ * A call takes less than 64 KB of stack. What is lent to one call does not overlap.
  * A pointer with length 0 must still not be null and must be aligned. Keys, commands and values may hold any bytes.
  */
 #ifndef REDIS_CACHE_H
