@@ -1,65 +1,17 @@
 //! The stream on a real Redis server, Debian's redis-server, over a Unix socket: after every invalidation the fresh catch is read. Where
 //! the server is not installed, the tests say so and are left out.
 
+mod common;
+
+use common::Server;
 use redis_cache::{
     Cache, CacheConfig, CacheMode, Call, Clock, Cmd, CommandCacheConfig, Event, OwnedAnswer,
     Stream, cmd, pipe,
 };
-use std::io::{ErrorKind, Read, Write};
+use std::io::{Read, Write};
 use std::os::unix::net::UnixStream;
-use std::path::PathBuf;
-use std::process::{Child, Command, Stdio};
 use std::thread::sleep;
 use std::time::Duration;
-
-/// A server of its own for each test.
-struct Server {
-    running: Child,
-    socket: PathBuf,
-}
-
-impl Server {
-    fn start(name: &str) -> Option<Self> {
-        let socket = std::env::temp_dir().join(format!("{name}-{}.sock", std::process::id()));
-        let running = Command::new("redis-server")
-            .args(["--port", "0", "--save", "", "--unixsocket"])
-            .arg(&socket)
-            .stdout(Stdio::null())
-            .spawn();
-        match running {
-            Ok(running) => Some(Server { running, socket }),
-            Err(missing) if missing.kind() == ErrorKind::NotFound => {
-                eprintln!("redis-server is not installed: {name} is left out");
-                None
-            }
-            Err(other) => panic!("{other}"),
-        }
-    }
-
-    fn connect(&self) -> UnixStream {
-        for _ in 0..500 {
-            match UnixStream::connect(&self.socket) {
-                Ok(socket) => return socket,
-                Err(_) => sleep(Duration::from_millis(20)),
-            }
-        }
-        panic!("the server does not start")
-    }
-
-    fn stop(&mut self) {
-        self.running.kill().expect("it runs");
-        self.running.wait().expect("it ends");
-        let _ = std::fs::remove_file(&self.socket);
-    }
-}
-
-impl Drop for Server {
-    fn drop(&mut self) {
-        let _ = self.running.kill();
-        let _ = self.running.wait();
-        let _ = std::fs::remove_file(&self.socket);
-    }
-}
 
 /// The host program: a socket and a stream.
 struct Desk {
@@ -217,14 +169,14 @@ fn expiry() {
 /// The server is stopped and another one started: nothing of before is served.
 #[test]
 fn restart() {
-    let Some(mut server) = Server::start("restart") else {
+    let Some(server) = Server::start("restart") else {
         return;
     };
     let mut desk = Desk::new(&server, CacheMode::All);
     Trap(server.connect()).post("SET trap7 12");
     let get = get("trap7", CacheMode::All);
     assert_eq!(desk.catch(&get), ("12".into(), true));
-    server.stop();
+    drop(server);
     let another = Server::start("restart").expect("installed");
     desk.socket = another.connect();
     desk.stream.reconnected();
