@@ -67,3 +67,8 @@ pub use value::{FromRedisValue, OwnedValue, ParsingError, ServerError, Value, fr
 #[cfg(doctest)]
 #[doc = include_str!("../README.md")]
 pub struct Readme;
+
+/// The examples of docs/USING.md, run as tests.
+#[cfg(doctest)]
+#[doc = include_str!("../../../docs/USING.md")]
+pub struct Using;
