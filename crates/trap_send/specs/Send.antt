@@ -1,4 +1,4 @@
--- What 01's program writes: planning's own call on an empty cache, with a plan buffer that has room. 01's words are quoted above the definitions that say them.
+-- What 01's program writes: planning's own call on an empty cache, with a plan buffer that has room (docs/BEHAVIOUR.md, T1).
 -- Assumes nothing: these are definitions.
 -- Letters: s the call record's bytes, d a plan buffer's, f the send buffer's, r what is answered.
 use mathlib.Core.Path.{_≡_}
@@ -21,7 +21,7 @@ pub record Output : Type 0 where
 abbrev pub output : Sent → Bytes → Output
 output r f = record { answer = r; out = f }
 
--- "writes the bytes to send only, or nothing on a refusal"
+-- of a planning that wrote, what is to be sent; of a refused one nothing
 abbrev pub sentOf : Returned → Sent
 sentOf (refusedAs n) = Nothing
 sentOf (wrongAt o) = Nothing
@@ -31,7 +31,7 @@ sentOf (wrote n m c) = Front m
 abbrev pub outputOf : Left → Output
 outputOf x = output (sentOf (x .returned)) (x .send)
 
--- "where record or output is over 65,536 bytes"
+-- the longest record that is taken
 abbrev pub maxRecord : ℕ
 maxRecord = 65536
 
@@ -39,11 +39,11 @@ maxRecord = 65536
 abbrev pub held : Bytes → Counts → ℕ → Held
 held a n next = record { arena = a; counts = n; next = next }
 
--- "an empty cache": 64 bytes as setup leaves them (Laws.antt, `empty-set-up`)
+-- a cache that holds nothing: 64 bytes as setup leaves them (Laws.antt, `empty-set-up`)
 abbrev pub emptyCache : Held
 emptyCache = held (replicate 64 0) (plus 0 0 0) 1
 
--- "plans it on an empty cache of size 4, mode All, clock 0, default TTL 1,800,000", with the plan buffer d; no epoch matters there, so it is 0
+-- the planning of the record s with the plan buffer d, at clock 0: four keys, mode All, half an hour as default TTL; no epoch matters there, so it is 0
 unfoldable pub sendsWith : Bytes → Bytes → Bytes → Output
 sendsWith s f d = cond (ltb maxRecord (length s)) (output Nothing f) (outputOf (planCall 4 0 1800000 0 0 s d f emptyCache))
 

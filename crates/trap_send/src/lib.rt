@@ -1,4 +1,4 @@
-// What 01's program sends: a call record is planned on an empty cache of size 4, mode All, clock 0, default TTL 1,800,000, and the bytes to send are written.
+// What the program trap_plan sends: the call record is planned, at clock 0 in mode All, on a cache of four keys that holds nothing (docs/BEHAVIOUR.md, T1).
 // A plan of such a record can be far longer than what is sent for it, so none is written: planning's own pieces are, each command peeked at on the empty
 // cache. specs/Send.antt says what is written.
 use call_record::Checked;

@@ -1,4 +1,4 @@
--- Document 01's cases that are to be proved, in one joint table: `Table` states them, in 01's order, each quoted above its line, by the definitions that the
+-- Document 01's cases that are to be proved, in one joint table: `Table` states them, in 01's order, each said above its line, by the definitions that the
 -- contracts of the code cite (`checked` of setup and of every call, `singleCall`, `planCall`, `resolveCall`, `digits`, `isValue`); `table` proves it. Assumes nothing.
 use mathlib.Core.Path.{_≡_, refl}
 use mathlib.Core.Bool.{true, false}
@@ -84,19 +84,19 @@ several n places = planHead 0 2 ++ (node 4 n [] [] ++ (places ++ (node 6 0 [] []
 -- ---- the table
 
 pub record Table : Type 0 where
-  -- "sizes 31, 32, 63, 64: 1 × 31, 32 × 1, 32 × 1, 32 × 2"
+  -- a size of 31 makes one shard of 31 keys; 32 and 63 make 32 of one key, 64 makes 32 of two
   pub size-31 : checked 31 0 0 2048 ≡ shardsOf 1 31 2048
   pub size-32 : checked 32 0 0 2048 ≡ shardsOf 32 1 64
   pub size-63 : checked 63 0 0 2048 ≡ shardsOf 32 1 64
   pub size-64 : checked 64 0 0 2048 ≡ shardsOf 32 2 64
-  -- "clock = expiry: served; one more: dropped"
+  -- at the clock of its expiry a value is served; a millisecond later it is dropped
   pub at-expiry : (lookedUp 10 .value ≡ some (ascii "$1\r\nx\r\n")) × (lookedUp 10 .held .counts ≡ plus 1 0 0)
   pub past-expiry : (lookedUp 11 .value ≡ none) × (lookedUp 11 .held ≡ record { arena = zeros 80; counts = plus 0 1 1; next = 1 })
-  -- "`JSON.MGET k`: `*0`": all of no places served, nothing sent; resolved without a reply it answers that
+  -- `JSON.MGET` of one argument has a path and no key: all of no places served, nothing sent; resolved without a reply it answers that
   pub json-mget-k : planned 2 (argument (ascii "JSON.MGET") ++ argument (ascii "k")) 28 0
       ≡ record { returned = wrote 28 0 (record { offset = 0; count = 0 }); plan = planHead 0 1 ++ node 2 0 [] []; send = []; held = freshIn 80 }
   pub json-mget-k-answer : resolved (planHead 0 1 ++ node 2 0 [] []) "*0\r\n" 8 80 ≡ returning (Answered 8 0) (ascii "*1\r\n*0\r\n") (freshIn 80)
-  -- "`GET` with an empty key: cacheable": it is asked for, and missing
+  -- `GET` of a key of no bytes is asked for, and missing
   pub empty-key : planned 2 (argument (ascii "GET") ++ argument []) 31 39
       ≡ record {
         returned = wrote 31 39 (record { offset = 0; count = 2 });
@@ -104,7 +104,7 @@ pub record Table : Type 0 where
         send = ascii "*2\r\n$4\r\nPTTL\r\n$0\r\n\r\n*2\r\n$3\r\nGET\r\n$0\r\n\r\n";
         held = record { arena = zeros 80; counts = plus 0 1 0; next = 1 };
       }
-  -- "`get a`: not": nothing is looked up, and it is handed on
+  -- in small letters the name is not listed: nothing is looked up, and it is handed on
   pub small-letters : planned 2 (argument (ascii "get") ++ argument (ascii "a")) 28 20
       ≡ record {
         returned = wrote 28 20 (record { offset = 0; count = 1 });
@@ -112,23 +112,23 @@ pub record Table : Type 0 where
         send = ascii "*2\r\n$3\r\nget\r\n$1\r\na\r\n";
         held = freshIn 80;
       }
-  -- "clock 10, PTTL 1, client expiry 500: 11; PTTL 0, -1: 500"
+  -- at clock 10 a PTTL of 1 ends at 11, before the client expiry 500; one of 0 or -1 leaves that
   pub pttl-1 : withPttl "*2\r\n:1\r\n$1\r\nu\r\n" ≡ keptUntil 11
   pub pttl-0 : withPttl "*2\r\n:0\r\n$1\r\nu\r\n" ≡ keptUntil 500
   pub pttl-minus-1 : withPttl "*2\r\n:-1\r\n$1\r\nu\r\n" ≡ keptUntil 500
-  -- "two waiting keys, three elements: three PTTLs taken": the next command is handed the fourth
+  -- an array one element too long for two waiting keys uses up a third PTTL: the next command is handed the fourth
   pub three-taken : resolved (several 2 (missing 5 "a" ++ missing 5 "b")) "*5\r\n*3\r\n$1\r\nu\r\n$1\r\nv\r\n$1\r\nw\r\n:1\r\n:2\r\n:3\r\n:4\r\n" 26 64
       ≡ returning (Answered 26 2) (ascii "*2\r\n*2\r\n$1\r\nu\r\n$1\r\nv\r\n:4\r\n") (freshIn 64)
-  -- "three keys, two elements: third `_`"; its PTTL is left for the next command
+  -- an array one element too short leaves the third place null; its PTTL is left for the next command
   pub third-null : resolved (several 3 (missing 5 "a" ++ (missing 5 "b" ++ missing 5 "c"))) "*4\r\n*2\r\n$1\r\nu\r\n$1\r\nv\r\n:1\r\n:2\r\n:3\r\n" 29 64
       ≡ returning (Answered 29 2) (ascii "*2\r\n*3\r\n$1\r\nu\r\n$1\r\nv\r\n_\r\n:3\r\n") (freshIn 64)
-  -- "digits of 9999, 10000: 4, 5"
+  -- 9999 has four digits, 10000 five
   pub four-digits : length (digits 9999) ≡ 4
   pub five-digits : length (digits 10000) ≡ 5
-  -- "key 3, command 6, value 7 bytes: 64": one item and 64 bytes used, in a shard of 80, 16 of them its header; in 79 there is no space
+  -- a key of 3, a command key of 6 and a value of 7 bytes take 64: one item and 64 bytes used, in a shard of 80, 16 of them its header; in 79 there is no space
   pub sixty-four : (storedIn 80 .cause ≡ 0) × (take 8 (storedIn 80 .held .arena) ≡ 1 ∷ 0 ∷ 0 ∷ 0 ∷ 64 ∷ 0 ∷ 0 ∷ 0 ∷ [])
   pub sixty-three : (storedIn 79 .cause ≡ 11) × (storedIn 79 .held ≡ freshIn 79)
-  -- "depth 16 read, 17 refused"
+  -- sixteen levels are read, seventeen are not
   pub depth-16 : (depth (nested 15) ≡ 16) × (isValue (encode (nested 15)) ≡ true)
   pub depth-17 : (depth (nested 16) ≡ 17) × (isValue (encode (nested 16)) ≡ false)
 
