@@ -1,6 +1,6 @@
 // One step of resolving, over a plan's nodes and the list of replies: every pass of resolving is a loop over `step_at`, so that all of them say the
 // same. After caching/cmd.rs; its iterators are the cursors here. specs/Steps.antt says what a step means, crate resolve_walk what all steps do.
-// `list` is the list of replies: exactly one array. Elements are handed out as parts of the plan or of the replies.
+// `list` is the list of replies: exactly one array. What is handed out is never copied: each element is a part of one of the two.
 use config::CacheMode;
 use plan::NodeHead;
 use resp3_element::Cursor;
