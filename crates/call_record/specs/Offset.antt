@@ -31,7 +31,7 @@ pub record EndsEarly (s : Bytes) : Type 0 where
 abbrev pub Allowed : Bytes → ℕ → Type 0
 Allowed s o = ((o < length s) × NoneBegins s o) ⊎ ((o ≡ length s) × EndsEarly s)
 
--- the first of them; and some valid record begins with the bytes before it
+-- the first of them; up to it the bytes are still the beginning of a valid record
 pub record FirstAllowed (s : Bytes) (o : ℕ) : Type 0 where
   pub allowed : Allowed s o
   pub first : (p : ℕ) → Allowed s p → o ≤ p

@@ -352,7 +352,7 @@ pub fn step_at(plan: &[u8], list: &[u8], c: Walk, mode: CacheMode, clock: u64) -
     on_node(list, behind, n, mode, clock)
 }
 
-// What a step hands out, as a part of the plan or of the replies.
+// What a step hands out, where it stands: in one slice or the other.
 pub fn element_part<'a>(plan: &'a [u8], list: &'a [u8], next: Next) -> &'a [u8]
     requires { ⌜ NextIn (now plan) (now list) next ⌝ }
     ensures bytes { λ r. ⌜ now r ≡ elementBytes (now (plan .entry)) (now (list .entry)) next ⌝ }
