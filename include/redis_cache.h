@@ -1,4 +1,5 @@
-/* The cache's C linkage: `rt staticlib caching` makes the library. Every function is proved to meet its contract in crates/caching/src/lib.rt.
+/* The cache's C linkage: `rt staticlib caching` makes the library. Every function is proved to meet its contract, which stands above its code in
+ * crates/caching/src/ (one file for each, but lib.rt has setup, the single calls and the counts). docs/BEHAVIOUR.md has the rules.
  *
  * Common to the calls that take them:
  *   arena, arena_len   the lent arena, which nobody else reads or writes meanwhile. docs/LAYOUT.md says what it holds.
@@ -8,21 +9,21 @@
  *   counts             the counts record: hit, miss, invalidate, in this order. It wraps at 64 bits.
  * A call returns 0 or the number of the cause that refuses it. The checks run in this order: 1; then, but for setup, 9; then in planning 3, 2, 4, 5,
  * in resolving 10, 6, 7, 8, in a push 6, in a single call 3, 6, 11.
- *    1   size not 1 to 65,536; mode over 1; arena over 2^31 bytes or under 64 bytes a shard
- *    2   the call record is wrong; an offset comes with it
- *    3   call record over 16 MiB; in a single call key over 65,535 bytes, command or value over 16 MiB
- *    4   the client expiry of a command (clock and its TTL) is past 2^64 - 1
- *    5   the plan buffer or the send buffer is short
- *    6   replies, push or value to store singly not exactly one RESP3 value of at most 16 MiB that nests at most 16 deep
- *    7   a list or a reply has the wrong shape or is absent
- *    8   the answer buffer is short
- *    9   the arena is not an image under the layout for this size
- *   10   the plan is not one under the layout
+ *    1   the size is not from 1 to 65,536, the mode neither 0 nor 1, or the arena longer than 2^31 bytes or shorter than 64 for each shard
+ *    2   the call record is none (docs/LAYOUT.md); an offset comes with it
+ *    3   the call record is longer than 16 MiB; in a single call the key than 65,535 bytes, the command key or the value than 16 MiB
+ *    4   the clock and a command's TTL add up to more than 64 bits hold
+ *    5   the plan buffer or the send buffer is too small
+ *    6   replies, push or value to store are not one RESP3 value, whole and alone, within 16 MiB and 16 levels
+ *    7   the replies are no list, or a command finds no fitting reply in it
+ *    8   the answer buffer is too small
+ *    9   no run of calls from a setup of this size leaves this arena
+ *   10   the plan breaks a rule of docs/LAYOUT.md
  *   11   the shard has no space for the value
  * A refused call leaves arena, counts and buffers as they were. Only 7 does not: stores of the commands before it remain, and the whole answer buffer
  * is zeroed.
  *
- * A call takes less than 64 KB of stack. What is lent to one call does not overlap.
+ * A call takes less than 64 KB of stack. Memory lent to one call must not overlap: the functions are proved for slices that are apart.
  * A pointer with length 0 must still not be null and must be aligned. Keys, commands and values may hold any bytes.
  */
 #ifndef REDIS_CACHE_H
@@ -61,8 +62,8 @@ typedef struct {
 } redis_cache_lookup_return;
 
 /* What planning returns: so many bytes of the plan buffer and of the send buffer are the plan and what is to be sent; of the responses to what is sent,
- * the first `offset` are skipped and the next `count` are the replies: (sent + 1, 1) for a transaction, else (0, sent), where MULTI and EXEC are not
- * counted. `at` is cause 2's offset: the first byte at which no valid record goes on as this one does, or the record's length where it ends early.
+ * the first `offset` are skipped and the next `count` are the replies: of a transaction what EXEC answers, with all before it skipped, else every
+ * response. `at` is cause 2's offset: the first byte at which no valid record goes on as this one does, or the record's length where it ends early.
  * All that is not told is 0: for cause 0 `at`, for cause 2 all but cause and `at`, for the other causes all but cause. */
 typedef struct {
     uint64_t cause;

@@ -1,5 +1,5 @@
--- Cause 9: "9 is given exactly if no run of calls from a setup with this size and arena length could leave those bytes." The bytes that are not
--- decoded are exactly those that no sequence of calls from a fresh cache leaves. Assumes of the setup what cause 1 leaves.
+-- Cause 9 (rules A2, C9 of docs/BEHAVIOUR.md), over the book's calls: the bytes that are not decoded are exactly those that no sequence of calls from a
+-- fresh cache leaves. Assumes of the setup what cause 1 leaves.
 use mathlib.Core.Path.{_≡_, refl, sym, ap, _∙_, fun-ext, subst}
 use mathlib.Core.Logic.{_↔_}
 use Prim.Native.Nat.{ℕ}

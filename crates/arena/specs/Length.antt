@@ -17,7 +17,7 @@ pub length-itemHead : (key count epoch expiry bytes : ℕ) → length (itemHead 
 unfolding itemHead
 length-itemHead key count epoch expiry bytes = simp (length-append, length-le, length-replicate)
 
--- "an entry 16 + command key + value"
+-- an entry's bytes are what the space rule counts for it (rule B9)
 pub length-entry : (en : Entry) → length (encEntry en) ≡ 16 + length (en .command) + length (en .value)
 unfolding encEntry
 length-entry en = simp (length-append, length-head) (omega arith)
@@ -27,7 +27,7 @@ unfolding encEntries entryBytes
 length-entries [] = refl
 length-entries (en ∷ ens) = simp (length-append, length-entry) (omega (arith, length-entries ens))
 
--- "An item takes 32 + key", and its entries
+-- and so are an item's
 pub length-item : (it : Item) → length (encItem it) ≡ 32 + length (it .key) + entryBytes (it .entries)
 unfolding encItem
 length-item it = simp (length-append, length-itemHead, length-entries) (omega arith)

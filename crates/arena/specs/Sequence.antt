@@ -17,7 +17,7 @@ use Rattle.arena.specs.Tests.{WellFormed}
 use Rattle.arena.specs.Image.{Sized, encoded-length, decode-encode}
 use Rattle.arena.specs.Keeps.{formed}
 
--- what the caller holds between calls: "Of arena, counts and next number each call gets those it takes as the calls before left or returned them"
+-- what the caller holds between calls and lends to the next one (rule D1)
 pub record Held : Type 0 where
   pub arena : Bytes
   pub counts : Counts

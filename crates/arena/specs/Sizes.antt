@@ -20,7 +20,7 @@ use Rattle.arena.specs.Decode.{decode}
 use Rattle.arena.specs.Image.{Sized}
 use Rattle.arena.specs.Cause9.{LeftBy, cause-nine}
 
--- so many shards, of so many keys and bytes each; "Shard number: SipHash-1-3, .., over the key's bytes, modulo shards"
+-- so many shards, of so many keys and bytes each; a key's shard is its hash modulo their number (rule B2)
 unfoldable pub setupOf : (Bytes → ℕ) → ℕ → ℕ → ℕ → Setup
 setupOf hash shards keys bytes = record { shards = shards; keys = keys; shardOf = λ k. hash k % shards; bytes = bytes }
 

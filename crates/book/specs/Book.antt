@@ -1,6 +1,6 @@
--- Document 01's book: its section "The shards", with each sentence quoted above the definition that says it, in 01's order; what is counted and the
--- space rule stand with the operation that they are about. What calls, their sequences and their shards are is in Calls.antt, what a residence is in
--- Residence.antt; sizes, hash, arena and layout are other crates', and any `Setup` here. Assumes nothing: these are definitions.
+-- The book: what the arena means. Each definition names the rule of docs/BEHAVIOUR.md that it says (B1 and so on); what is counted and the space rule stand
+-- with the operation that they are about. What calls, their sequences and their shards are is in Calls.antt, what a residence is in Residence.antt;
+-- sizes, hash, arena and layout are other crates', and any `Setup` here. Assumes nothing: these are definitions.
 -- Letters: k key, c command key, v value, t clock, e epoch, x expiry; n a number of keys, of bytes or of shards.
 use Prim.Native.Nat.{ℕ, zero, suc, _+_, _-_}
 use mathlib.Core.Bool.{Bool, true, false, cond}
@@ -11,16 +11,15 @@ use lib.Dec.{eqb, leb}
 use Rattle.buffer.specs.Same.{Bytes, same}
 use Rattle.config.specs.Wrap.{wrap}
 
--- "Size below 32: one shard of that many keys; else 32 of size / 32, rounded down. Shard number: SipHash-1-3, .., over the key's bytes, modulo
--- shards." "each shard has arena length / shards bytes, rounded down, 16 of them its header": a size and an arena length give the number of shards, the
--- keys and bytes that each has, and the shard of a key
+-- What size and arena length settle (rules B1, B2, B9): how many shards there are, how many keys and how many bytes each may have (16 of the bytes
+-- are its header's), and which shard a key belongs to
 pub record Setup : Type 0 where
   pub shards : ℕ
   pub keys : ℕ
   pub shardOf : Bytes → ℕ
   pub bytes : ℕ
 
--- ---- "Each shard is a row of items, newest to oldest, each with key, epoch, expiry and a value per command key stored (its entries)."
+-- ---- Rule B3: a shard's items in a row, the newest in front; an item's one epoch and one expiry serve all its entries
 
 pub record Entry : Type 0 where
   pub command : Bytes
@@ -47,7 +46,7 @@ pub record Book : Type 0 where
   pub counts : Counts
   pub next : ℕ
 
--- "It starts without items, with the counts as first lent and next epoch number 1."
+-- the book after setup, whatever the counts (rule B4)
 unfoldable pub fresh : Counts → Book
 fresh lent = record { rows = λ i. []; counts = lent; next = 1 }
 
@@ -113,57 +112,57 @@ pub record Effect : Type 0 where
 abbrev pub plus : ℕ → ℕ → ℕ → Counts
 plus h m i = record { hits = h; misses = m; invalidates = i }
 
--- "Lookup: the key's item is dropped if under another epoch or clock > expiry;" and is current else
+-- whether an item may still be served (rule B5): it is of this epoch, and its expiry has not passed; at the expiry itself it has not
 unfoldable pub current : ℕ → ℕ → Item → Bool
 current t e it = cond (eqb e (it .epoch)) (leb t (it .expiry)) false
 
--- "otherwise it becomes newest, and its value for the command, if any, is served: a hit. All else is a miss." (`newest` is the row with it in front.)
--- "Each lookup adds one hit or one miss."
+-- a lookup whose item is current (rule B6): with a value under the command key it hits, without one it misses; in both cases the item has come to the
+-- front (`newest` is the row then). One of the two counts goes up by one (rule B11)
 unfoldable pub serve : Option Bytes → Row → Effect
 serve none newest = record { row = newest; answer = miss; adds = plus 0 1 0 }
 serve (some v) newest = record { row = newest; answer = hit v; adds = plus 1 0 0 }
 
--- the whole lookup, from the key's item. "Dropped by lookup or invalidation, an item adds its number of entries to invalidate;"
+-- the whole lookup, from the key's item: none is a miss, one that is not current goes as well and its entries are counted (rules B5, B6, B11)
 unfoldable pub lookupItem : Option Item → Bytes → Bytes → ℕ → ℕ → Row → Effect
 lookupItem none k c t e row = record { row = row; answer = miss; adds = plus 0 1 0 }
 lookupItem (some it) k c t e row =
     cond (current t e it) (serve (valueFor c (it .entries)) (it ∷ without k row))
     (record { row = without k row; answer = miss; adds = plus 0 1 (length (it .entries)) })
 
--- "a new item of this store"
+-- the item that a store makes: this one entry, this epoch, this expiry
 abbrev pub newItem : Bytes → Bytes → Bytes → ℕ → ℕ → Item
 newItem k c v x e = record { key = k; epoch = e; expiry = x; entries = record { command = c; value = v } ∷ [] }
 
--- "the key's item under this epoch gets value and expiry": one expiry, for all its entries
+-- an item of the same epoch after a store (rule B7): the value is set among its entries, and the expiry is now that of all of them
 abbrev pub updated : Bytes → Bytes → ℕ → Item → Item
 updated c v x it = record { key = it .key; epoch = it .epoch; expiry = x; entries = setValue c v (it .entries) }
 
--- "`push` of an absent key to a full shard drops the oldest"; a shard is full with n keys
+-- the row once a new key has a place (rule B8): a shard of n keys is full, and then its oldest item makes room
 unfoldable pub roomForOne : ℕ → Row → Row
 roomForOne n row = cond (leb n (length row)) (withoutOldest row) row
 
--- "Store: the key's item under this epoch gets value and expiry, unmoved. Otherwise the key's item goes, or, with none, a full shard's oldest, and
--- a new item of this store is newest.": the row after the store, the space rule aside
+-- the row after the store, the space rule aside (rules B7, B8): an item of this epoch is changed where it stands; one of another epoch is replaced by a
+-- new item in front; without either a new item comes in front, for which the oldest may have to go
 unfoldable pub storedRow : ℕ → Option Item → Bytes → Bytes → Bytes → ℕ → ℕ → Row → Row
 storedRow n none k c v x e row = newItem k c v x e ∷ roomForOne n row
 storedRow n (some it) k c v x e row =
     cond (eqb e (it .epoch)) (replace k (updated c v x it) row) (newItem k c v x e ∷ without k row)
 
--- "An item takes 32 + key, an entry 16 + command key + value."
+-- the bytes of some entries (rule B9): 16 for each, and its two strings
 unfoldable pub entryBytes : List Entry → ℕ
 entryBytes [] = 0
 entryBytes (en ∷ ens) = 16 + length (en .command) + length (en .value) + entryBytes ens
 
--- the bytes that a row takes
+-- the bytes that a row takes: 32 for each item, its key, and its entries
 unfoldable pub rowBytes : Row → ℕ
 rowBytes [] = 0
 rowBytes (it ∷ row) = 32 + length (it .key) + entryBytes (it .entries) + rowBytes row
 
--- "A store is refused as 11 exactly if the shard after it would exceed its bytes less 16"; n bytes are the shard's
+-- the space rule (B9): a shard of n bytes has room for this row beside its header
 unfoldable pub fits : ℕ → Row → Bool
 fits n row = leb (rowBytes row) (n - 16)
 
--- the whole store. "If the space rule says 11, nothing changes." What is dropped "by a store, [adds] nothing".
+-- the whole store: the new row if it fits, else the old one and cause 11 (rule B9). No store is counted, nor what it drops (rule B11)
 unfoldable pub ifFits : Bool → Row → Row → Effect
 ifFits true new old = record { row = new; answer = stored; adds = plus 0 0 0 }
 ifFits false new old = record { row = old; answer = noSpace; adds = plus 0 0 0 }
@@ -185,7 +184,7 @@ keyOf (lookup k c t e) = k
 keyOf (store k c v x e) = k
 keyOf (invalidate k) = k
 
--- lookup and store as above; "Invalidation: the key's item goes," and "adds its number of entries to invalidate"
+-- lookup and store as above; an invalidation drops the key's item and counts its entries (rules B10, B11)
 unfoldable pub effectOn : Setup → Keyed → Row → Effect
 effectOn p (lookup k c t e) row = lookupItem (find k row) k c t e row
 effectOn p (store k c v x e) row =
@@ -194,12 +193,12 @@ effectOn p (invalidate k) row = record { row = without k row; answer = invalidat
 
 -- ---- The whole book
 
--- "Invalidation: the key's item goes, or all do."
+-- what can happen: something to one key's shard, everything dropped at once (rule B10), a new epoch (rule B12)
 pub data Event : Type 0 where
   on : Keyed → Event
   invalidateAll newEpoch : Event
 
--- the counts with what is added; "The three counts wrap at 64 bits", and so does the next epoch number
+-- the counts with what is added, modulo 2^64 (rule G4)
 unfoldable pub count : Counts → Counts → Counts
 count was adds =
     record {
@@ -220,14 +219,14 @@ put s f bk = record { rows = setRow s (f .row) (bk .rows); counts = count (bk .c
 unfoldable pub effect : Setup → Keyed → Book → Effect
 effect p q bk = effectOn p q (bk .rows (p .shardOf (keyOf q)))
 
--- the book after an event; "a new epoch returns that number and adds one, wrapping"
+-- the book after an event; a new epoch moves the next number on by one, modulo 2^64 (rule B12)
 unfoldable pub after : Setup → Event → Book → Book
 after p (on q) bk = put (p .shardOf (keyOf q)) (effect p q bk) bk
 after p invalidateAll bk =
     record { rows = λ i. []; counts = count (bk .counts) (plus 0 0 (allEntries (p .shards) (bk .rows))); next = bk .next }
 after p newEpoch bk = record { rows = bk .rows; counts = bk .counts; next = wrap (bk .next + 1) }
 
--- what the event answers
+-- what the event answers; a new epoch the number that was next
 unfoldable pub answerTo : Setup → Event → Book → Answer
 answerTo p (on q) bk = effect p q bk .answer
 answerTo p invalidateAll bk = invalidated

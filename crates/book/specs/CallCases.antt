@@ -1,4 +1,4 @@
--- Worked cases of calls on 01's book, each a theorem by itself, by computing. They lean on the definitions of Book.antt and Calls.antt alone.
+-- Worked cases of calls on the book, each a theorem by itself, by computing. They lean on the definitions of Book.antt and Calls.antt alone.
 -- All run on a fresh book of one shard of two keys and 400 bytes, with counts of zero, unless they say otherwise.
 use mathlib.Core.Path.{_≡_, refl}
 use Prim.Native.Nat.{ℕ}

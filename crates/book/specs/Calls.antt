@@ -1,6 +1,6 @@
--- Calls and sequences of calls on 01's book, each sentence of 01 quoted above the definition that says it. Assumes nothing: these are definitions.
--- "Demand 3's book is fed the calls' arguments": a call is what its arguments give, its events and the causes that refuse it. Reading them from bytes,
--- a plan "by docs/LAYOUT.md" and a push by RESP3, is the entry points' matter.
+-- Calls and sequences of calls on the book, by rules B14, G5 and D1 of docs/BEHAVIOUR.md. Assumes nothing: these are definitions.
+-- The book knows of a call what its arguments give: its events, and whether a cause refuses it. How these are read from bytes, a plan's by docs/LAYOUT.md
+-- and a push's by RESP3, is the entry points' matter.
 use Prim.Native.Nat.{ℕ, _+_}
 use mathlib.Core.Bool.{Bool, true, false, cond}
 use mathlib.Core.Option.{Option, none, some}
@@ -30,17 +30,17 @@ pub data Call : Type 0 where
   resolving : ℕ → List Storing → Call
   -- one that cause 7 refuses: epoch, and the stores that 7 leaves
   resolving7 : ℕ → List Storing → Call
-  -- a push of keys (of none, where it "is ignored"), and one of `_`
+  -- a push of keys (of none, where rule U1 passes it over), and one of `_`
   push : List Bytes → Call
   pushAll : Call
-  -- "Single lookup, store and invalidate are `ShardedLRU::get`, `insert` and `invalidate`."
+  -- one lookup, store or invalidation by itself, as the Rust's `ShardedLRU` has them
   single : Keyed → Call
   -- a new epoch
   takeEpoch : Call
   -- any call that another cause refuses; of all causes but 5, 7 and 11 the arguments alone decide
   refused : Call
 
--- ---- "A planning is its lookups in order, a push its invalidations, a resolving its stores, under its own clock and epoch"
+-- ---- Rule B14: the lookups of a planning, the stores of a resolving, the invalidations of a push, each in its order
 
 -- a planning's lookups, under one clock and epoch
 unfoldable pub lookups : ℕ → ℕ → List Wanted → List Keyed
@@ -73,7 +73,7 @@ eventsOf (single q) = ons (q ∷ [])
 eventsOf takeEpoch = newEpoch ∷ []
 eventsOf refused = []
 
--- ---- "A call that a cause refuses, judged on the book, does nothing, but the stores that 7 leaves remain."
+-- ---- Rule G5: a refused call changes nothing, save that cause 7 keeps the stores made before it (rule S12)
 
 -- whether a cause refuses the call, from the answers that its events would have. (A single store that 11 refuses answers `noSpace`.)
 unfoldable pub isRefused : Call → List Answer → Bool
@@ -86,7 +86,7 @@ isRefused (single q) said = false
 isRefused takeEpoch said = false
 isRefused refused said = true
 
--- what a refused call still does: "the stores that 7 leaves remain"
+-- what a refused call still does: under cause 7, the stores made before it
 unfoldable pub remaining : Call → List Event
 remaining (planning t e ws short) = []
 remaining (resolving e ws) = []
@@ -109,7 +109,7 @@ afterCall p c bk = afterAll p (happening p c bk) bk
 unfoldable pub replyTo : Setup → Call → Book → Option (List Answer)
 replyTo p c bk = cond (isRefused c (answers p (eventsOf c) bk)) none (some (answers p (eventsOf c) bk))
 
--- "with it comes the number of stores refused as 11"
+-- how many of the stores found no space, which a resolving reports (rule S11)
 unfoldable pub refusals : List Answer → ℕ
 refusals [] = 0
 refusals (hit v ∷ said) = refusals said
@@ -119,7 +119,7 @@ refusals (noSpace ∷ said) = 1 + refusals said
 refusals (invalidated ∷ said) = refusals said
 refusals (number n ∷ said) = refusals said
 
--- ---- "Demand 3 is one claim about the whole sequence"
+-- ---- Sequences of calls (rule D1)
 
 -- the book after a sequence of calls, in their order
 unfoldable pub afterCalls : Setup → List Call → Book → Book
@@ -146,7 +146,7 @@ unfoldable pub traced : Setup → Book → List Event → List Call → List Eve
 traced p bk h [] = h
 traced p bk h (c ∷ cs) = traced p bk (onto h (happening p c (run p bk h))) cs
 
--- ---- "A call's shards are its keys' shards, all for a push of `_`."
+-- ---- The shards that a call can touch: those of its keys, every one where a push drops everything (rule D4)
 
 pub data Shards : Type 0 where
   these : List ℕ → Shards

@@ -1,4 +1,4 @@
--- Worked cases of 01's book, each a theorem by itself, by computing. They lean on Book.antt alone, so that a wrong definition there fails here first.
+-- Worked cases of the book, each a theorem by itself, by computing. They lean on Book.antt alone, so that a wrong definition there fails here first.
 -- All run on a fresh book of one shard of two keys and 400 bytes, with counts of zero, unless they say otherwise.
 use mathlib.Core.Path.{_≡_, refl}
 use Prim.Native.Nat.{ℕ, _-_, _^_}

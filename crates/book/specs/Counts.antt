@@ -57,7 +57,7 @@ count-none was w =
       invalidates = wrap-none (was .invalidates) (w .invalidates) i;
     }
 
--- "dropped by a store, nothing"
+-- no store counts anything, nor what it drops (rule B11)
 pub fit-adds : (b : Bool) (new old : Row) → ifFits b new old .adds ≡ plus 0 0 0
 unfolding ifFits
 fit-adds true new old = refl

@@ -1,6 +1,5 @@
--- Demand 3 on 01's book, clause by clause: the record `Demand3`, whose fields quote it, and the theorem `demand-three`, that it holds for every sequence of
--- calls from a fresh book. "For every sequence of plannings, resolvings, pushes, single lookups, stores and invalidations, and new epochs, refused ones
--- included, from a fresh cache, with its setup's size and arena length given in every call": any list of `Call`, under one `Setup`.
+-- Demand 3 on the book, clause by clause (rules D1 to D4 of docs/BEHAVIOUR.md): the record `Demand3`, and the theorem `demand-three`, that it holds for every
+-- sequence of calls from a fresh book. A sequence is any list of `Call`, refused ones among them, all under the one `Setup` that it began with.
 -- Here calls are what their arguments give (Calls.antt). What remains for the entry points to show: that each reads its arguments as such a call, answers
 -- what `replyTo` says of it, and leaves an arena and counts that hold the book that `afterCall` leaves.
 -- Assumes of the setup that a shard holds a key and that every key has a shard (`Proper`).
@@ -102,33 +101,31 @@ module _ (p : Setup) (lent : Counts) where
     -- what a call of the sequence answers, in the clauses below, is what it answers on the book that the calls before it left
     pub inTurn : (before later : List Call) (c : Call) → cs ≡ before ++ (c ∷ later)
         → replies p cs (fresh lent) ≡ replies p before (fresh lent) ++ (replyTo p c (bookOf before) ∷ replies p later (bookOf (before ++ (c ∷ []))))
-    -- "each lookup of a call not refused, in a planning too, is served exactly if the key's residence (01) still runs, has the caller's epoch, has an
-    -- expiry not before the given clock, and holds a store under the lookup's command key (01); the latest such store is what it gets."
+    -- rule D2, for single lookups and those of plannings alike: a lookup is served exactly by a running residence of its key (`ServedBy`), and gets the
+    -- latest store under its command key; without one it is told that it missed
     pub served : (l : LookupIn cs) (v : Bytes) → (gets l ≡ some (hit v)) ↔ IsServed l v
     pub unserved : (l : LookupIn cs) → ((v : Bytes) → IsServed l v → ⊥) → gets l ≡ some miss
-    -- "What single stores [.. answer]": 11 exactly by the space rule
+    -- a single store is kept, or refused as 11, by the space rule and nothing else
     pub singleStored : (before later : List Call) (k c v : Bytes) (x e : ℕ) → cs ≡ before ++ (single (store k c v x e) ∷ later)
         → rowBytes (shardAfter p k c v x e (bookOf before)) ≤ p .bytes - 16
         → replyTo p (single (store k c v x e)) (bookOf before) ≡ some (stored ∷ [])
     pub singleRefused : (before later : List Call) (k c v : Bytes) (x e : ℕ) → cs ≡ before ++ (single (store k c v x e) ∷ later)
         → p .bytes - 16 < rowBytes (shardAfter p k c v x e (bookOf before))
         → replyTo p (single (store k c v x e)) (bookOf before) ≡ some (noSpace ∷ [])
-    -- "and new epochs answer": 1 and how many came before, wrapping
+    -- a new epoch answers 1 and how many new epochs there were before it, modulo 2^64
     pub epochs : (before later : List Call) → cs ≡ before ++ (takeEpoch ∷ later)
         → replyTo p takeEpoch (bookOf before) ≡ some (number (wrap (1 + epochsIn before)) ∷ [])
-    -- "how many stores each resolving reports as refused": as many as the space rule refuses
+    -- a resolving reports as many stores as the space rule refuses
     pub reported : (before later : List Call) (e : ℕ) (ws : List Storing) → cs ≡ before ++ (resolving e ws ∷ later)
         → (said : List Answer) × (replyTo p (resolving e ws) (bookOf before) ≡ some said) × (refusals said ≡ lacking p e ws (bookOf before))
-    -- "and after the sequence the items in each shard, their recency and the counts are as in 01's book": `bookOf` is that book by definition; it is
-    -- what the events that happened leave, one after the other; each shard's row is one that it can hold, no item is in any other, and the counts hit
-    -- and miss go by the answers
+    -- what is held at the end (rule D3): `bookOf` is the book by definition; it is what the events that happened leave, one after the other; each shard's
+    -- row is one that it can hold, no item is in any other, and the counts hit and miss go by the answers
     pub left : bookOf cs ≡ run p (fresh lent) (traceOf cs)
     pub rows : SoundBook p (bookOf cs)
     pub noOthers : (s : ℕ) → p .shards ≤ s → bookOf cs .rows s ≡ []
     pub hits : Counted lent → bookOf cs .counts .hits ≡ wrap (lent .hits + tallyAll hitsIn (replies p cs (fresh lent)))
     pub misses : Counted lent → bookOf cs .counts .misses ≡ wrap (lent .misses + tallyAll missesIn (replies p cs (fresh lent)))
-    -- "Exchanging two neighbouring calls in it, each a single lookup, store or invalidation or a push, with no shard in common and each with its own
-    -- clock and epoch, alters no call's answer, no shard and no final count."
+    -- rule D4: two neighbours that share no shard, each a single call or a push, may change places; every answer, shard and count stays
     pub exchanged : (before later : List Call) (x y : Call) → cs ≡ before ++ (x ∷ y ∷ later) → Movable x → Movable y
         → NoneCommon (shardsOf p x) (shardsOf p y) → Swapped p (fresh lent) before x y later
 

@@ -132,7 +132,7 @@ exchange p (a ∷ xs) ys bk d =
 
 -- ---- two calls
 
--- "each a single lookup, store or invalidation or a push", refused or not: the calls that may change places
+-- the calls that may change places (rule D4): single calls and pushes, refused or not
 pub data Movable : Call → Type 0 where
   aSingle : (q : Keyed) → Movable (single q)
   aPush : (ks : List Bytes) → Movable (push ks)

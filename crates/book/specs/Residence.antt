@@ -1,6 +1,6 @@
--- "A residence is an item's stay in the book, a key's history all of them." Here a residence that still runs at the end of a trace: the part of the trace
--- from the store that brought the item in, through events none of which the item left the book by. The key's history is its residences at the ends of
--- all earlier parts of the trace. A trace has its latest event first (Calls.antt). Assumes nothing: these are definitions.
+-- Residences (rule B13 of docs/BEHAVIOUR.md): here one that still runs at the end of a trace, that is, the part of the trace from the store that brought
+-- the item in, through events by none of which the item left the book. A key's history is its residences at the ends of all earlier parts of the trace.
+-- A trace has its latest event first (Calls.antt). Assumes nothing: these are definitions.
 use mathlib.Core.Path.{_≡_}
 use Prim.Native.Nat.{ℕ, _≤_}
 use mathlib.Core.Bool.{Bool, true, false, cond, not}
@@ -22,8 +22,8 @@ unfoldable pub hasUnder : ℕ → Option Item → Bool
 hasUnder e none = false
 hasUnder e (some it) = eqb e (it .epoch)
 
--- the item is in the book no more: its key has none now, or a new one, which is under another epoch ("the key's item under this epoch gets value and
--- expiry, unmoved. Otherwise the key's item goes")
+-- the item is in the book no more: its key has none now, or a new one, which is under another epoch (rules B7, B8: a store keeps the item exactly where
+-- its epoch is the item's)
 unfoldable pub leaves : Option Item → Option Item → Bool
 leaves none now = false
 leaves (some it) now = not (hasUnder (it .epoch) now)
@@ -114,8 +114,8 @@ module _ {p : Setup} {bk : Book} {k : Bytes} {h : List Event} where
   unfoldable pub expiryOf : Residence p bk k h → ℕ
   expiryOf r = latestOf (laterStores r) (r .first) .expiry
 
--- demand 3's condition on a lookup after the trace h: "the key's residence (01) still runs, has the caller's epoch, has an expiry not before the given
--- clock, and holds a store under the lookup's command key (01); the latest such store is what it gets"
+-- when a lookup after the trace h gets v (rule D2): a residence of the key runs that is of the lookup's epoch and has not expired at its clock, and v is
+-- what was stored last under its command key
 pub record ServedBy (p : Setup) (bk : Book) (h : List Event) (k c : Bytes) (t e : ℕ) (v : Bytes) : Type 0 where
   pub residence : Residence p bk k h
   pub epoch : residence .epoch ≡ e

@@ -1,4 +1,4 @@
--- "Each lookup adds one hit or one miss": after a sequence of calls the counts hit and miss are those at its start and the hits and misses that the calls
+-- Rule B11 for hits and misses: after a sequence of calls the two counts are those at its start and the hits and misses that the calls
 -- answered, wrapping. Assumes of the counts at the start that they are of 64 bits.
 use mathlib.Core.Path.{_≡_, refl, sym, ap, ap₂, _∙_}
 use Prim.Native.Nat.{ℕ, _+_, _%_, _^_, _<_}

@@ -63,7 +63,7 @@ module _ (p : Setup) (R : ℕ → Row → Type 0) (empty : (s : ℕ) → R s [])
 
 -- ---- setups
 
--- what 01's sizes give: a shard holds at least one key, and every key has a shard
+-- what every size gives: a shard holds at least one key, and every key has a shard
 pub record Proper (p : Setup) : Type 0 where
   pub some-key : 1 ≤ p .keys
   pub in-range : (k : Bytes) → p .shardOf k < p .shards

@@ -1,4 +1,4 @@
--- The ways in which a residence ends: 01's, and no others (`residence-ends`). Assumes that a shard holds at least one key.
+-- The ways in which a residence ends: those of rule B13 of docs/BEHAVIOUR.md, and no others (`residence-ends`). Assumes that a shard holds at least one key.
 use mathlib.Core.Path.{_≡_, refl, sym, ap, _∙_, subst}
 use mathlib.Core.Logic.{_↔_, _≢_}
 use Prim.Native.Nat.{ℕ, _≤_, _<_}
@@ -21,17 +21,17 @@ use Rattle.book.specs.Stays.{answer-here, stays, gone-ends, opening-ends
 
 -- the ways in which an event on the book `bk` ends the stay of k's item, which has this epoch and expiry
 pub data Way (p : Setup) (k : Bytes) (bk : Book) (epoch expiry : ℕ) : Event → Type 0 where
-  -- "dropped if under another epoch": a lookup of the key
+  -- a lookup of the key under another epoch
   otherEpoch : (c : Bytes) (t e : ℕ) → e ≢ epoch → Way p k bk epoch expiry (on (lookup k c t e))
-  -- "or clock > expiry"
+  -- a lookup of the key past its expiry
   expired : (c : Bytes) (t e : ℕ) → expiry < t → Way p k bk epoch expiry (on (lookup k c t e))
-  -- "Otherwise the key's item goes": a store of the key under another epoch that is kept
+  -- a store of the key under another epoch that is kept
   replaced : (c v : Bytes) (x e : ℕ) → answerTo p (on (store k c v x e)) bk ≡ stored → e ≢ epoch → Way p k bk epoch expiry (on (store k c v x e))
-  -- "or, with none, a full shard's oldest": a store of an absent key to the key's full shard that is kept
+  -- a store of an absent key to the key's full shard that is kept, where the key's item is the oldest
   evicted : (j c v : Bytes) (x e : ℕ) → answerTo p (on (store j c v x e)) bk ≡ stored → p .shardOf k ≡ p .shardOf j → itemOf p j bk ≡ none
       → p .keys ≤ length (bk .rows (p .shardOf k)) → isOldest k (bk .rows (p .shardOf k)) ≡ true
       → Way p k bk epoch expiry (on (store j c v x e))
-  -- "Invalidation: the key's item goes, or all do."
+  -- an invalidation of the key, or of everything
   invalidatedKey : Way p k bk epoch expiry (on (invalidate k))
   invalidatedAll : Way p k bk epoch expiry invalidateAll
 

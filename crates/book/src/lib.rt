@@ -1,1 +1,1 @@
-// No code: document 01's book, and demand 3 on it, are definitions and theorems, in specs/.
+// No code: the book (part B of docs/BEHAVIOUR.md), and demand 3 on it, as definitions and theorems, in specs/.

@@ -108,7 +108,7 @@ plans s n m h = planCall 1 0 100 5 3 s (replicate n 9) (replicate m 8) h
 abbrev allLeft : ℕ → ℕ → ℕ → Held → Left
 allLeft cause n m h = record { returned = refusedAs cause; plan = replicate n 9; send = replicate m 8; held = h }
 
--- ---- the causes in their order: "1; then 9 ..; then in planning 3, 2, 4, 5"
+-- ---- each cause against the next, in the order of rule C12
 
 -- 1 before 9: a size of 0, a mode of 2
 pub one-before-nine : (planCall 0 0 100 5 3 [] [] [] spoilt .returned ≡ refusedAs 1) × (planCall 1 2 100 5 3 [] [] [] spoilt .returned ≡ refusedAs 1)

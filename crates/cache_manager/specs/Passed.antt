@@ -57,7 +57,7 @@ module _ (p : Setup) (rows : ℕ → Row) (t e : ℕ) (g : Settings) (b : Bool) 
 
 -- ---- the second pass
 
--- "Response counts: (sent + 1, 1) for a transaction, else (0, sent)"
+-- with the response counts of rule P18
 abbrev pub writtenOf : Bool → ℕ → ℕ → ℕ → Written
 writtenOf b n m x =
     cond b (record { plan = n; send = m; offset = x + 1; count = 1 }) (record { plan = n; send = m; offset = 0; count = x })

@@ -1,5 +1,5 @@
--- Planning as a call (`get_cached_pipeline`): document 01's causes, what planning returns and what it leaves, from the settings, the arguments and what the
--- caller holds. 01's sentences are quoted above the definitions that say them. Assumes nothing: these are definitions.
+-- Planning as a call (`get_cached_pipeline`): its causes, what planning returns and what it leaves, from the settings, the arguments and what the
+-- caller holds. Rules are docs/BEHAVIOUR.md's. Assumes nothing: these are definitions.
 -- Letters: g settings, t clock, e epoch, s the call record's bytes, r the call record, d the plan buffer's bytes, f the send buffer's, h what the caller holds.
 use mathlib.Core.Path.{_≡_}
 use mathlib.Core.Bool.{cond}
@@ -37,14 +37,14 @@ use Rattle.cache_manager.specs.declared.CachedPipeline.{CachedPipeline}
 -- ---- what is returned
 
 pub data Returned : Type 0 where
-  -- "number": the cause's
+  -- the cause's number
   refusedAs : ℕ → Returned
-  -- "number, an offset": cause 2's
+  -- cause 2, with its offset (rule R5)
   wrongAt : ℕ → Returned
   -- bytes written to the plan buffer, bytes written to the send buffer, response counts
   wrote : ℕ → ℕ → Responses → Returned
 
--- 01's number; 0 where nothing refuses
+-- the cause's number; 0 where nothing refuses
 unfoldable pub causeOf : Returned → ℕ
 causeOf (refusedAs n) = n
 causeOf (wrongAt o) = badRecord
@@ -58,11 +58,11 @@ pub record Left : Type 0 where
   pub held : Held
 
 module _ (t e : ℕ) (s d f : Bytes) (h : Held) where
-  -- "Left as it was: all"
+  -- a refusal leaves everything as it was (rule G5)
   abbrev pub refusal : Returned → Left
   refusal x = record { returned = x; plan = d; send = f; held = h }
 
-  -- "Served values are copied into the plan." "Unwritten ends of output buffers are unchanged on success."
+  -- plan and bytes to send stand at the front of their buffers, whose ends stay (rules P19, G6)
   unfoldable pub pipelined : Settings → (ℕ → Row) → Record → PlanAnswer → Left
   pipelined g rows r (because n) = refusal (refusedAs n)
   pipelined g rows r (done x) =
@@ -77,16 +77,16 @@ module _ (t e : ℕ) (s d f : Bytes) (h : Held) where
   abbrev pub recorded : Settings → (ℕ → Row) → Record → Left
   recorded g rows r = pipelined g rows r (planOn (setupNow g) (bookOf rows h) g t e r (length d) (length f))
 
-  -- cause 2: "call record wrong"
+  -- cause 2 (C2)
   unfoldable pub judged : Settings → (ℕ → Row) → Checked → Left
   judged g rows Fine = recorded g rows (recordAt s)
   judged g rows (Wrong o) = refusal (wrongAt o)
 
-  -- "in planning 3, 2, 4, 5"; 3: "call record over 16 MiB"
+  -- cause 3 comes before it, for a record that is too long, right or wrong (C3, and the order of rule C12)
   unfoldable pub admittedTo : Settings → (ℕ → Row) → Left
   admittedTo g rows = cond (ltb maxBytes (length s)) (refusal (refusedAs tooLong)) (judged g rows (checkDef s))
 
-  -- "Checks run: 1; then 9"
+  -- causes 1 and 9 come first (rule C12)
   unfoldable pub imaged : Settings → Option (ℕ → Row) → Left
   imaged g none = refusal (refusedAs badArena)
   imaged g (some rows) = admittedTo g rows

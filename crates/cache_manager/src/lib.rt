@@ -1,5 +1,5 @@
 // Planning: `get_cached_pipeline` (cache_manager.rs), on a lent arena, a call record and two lent buffers. Nothing is asked of the caller: what is wrong is
-// refused by 01's numbers. specs/Pipeline.antt says what is returned and left.
+// refused by a cause's number. specs/Pipeline.antt says what is returned and left.
 use call_record::Checked;
 use config::Settings;
 use cursor::Commands;
@@ -38,7 +38,7 @@ pub enum Pipelined {
     Done(Written),
     // The call record is wrong at this offset.
     BadRecord(usize),
-    // 01's number of another cause; everything is left as it was.
+    // The number of another cause; everything is left as it was.
     Refused(u64),
 }
 
@@ -48,7 +48,7 @@ pub struct CachedPipeline {
     pub counts: Statistics,
 }
 
-// The response counts: (sent + 1, 1) for a transaction, else (0, sent).
+// The response counts (rule P18 of docs/BEHAVIOUR.md).
 fn written_of(transaction: bool, plan: usize, send: usize, sent: usize) -> Written
     requires { ⌜ sent < 2 ^ 63 ⌝ }
     ensures { λ r. ⌜ r ≡ writtenOf transaction plan send sent ⌝ }

@@ -17,7 +17,7 @@ use Rattle.caching.specs.declared.RedisCacheLookup.{RedisCacheLookup}
 
 -- ---- setup
 
--- 01's number, the epoch taken and the next number; a setup that is refused takes none
+-- the cause's number, the epoch taken and the next number; a setup that is refused takes none
 abbrev pub setupReturn : NewCache → RedisCacheSetup
 setupReturn (Fresh epoch next) = record { cause = noCause; epoch = epoch; next = next }
 setupReturn (NotSetUp n) = record { cause = n; epoch = 0; next = 0 }

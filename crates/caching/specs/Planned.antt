@@ -10,11 +10,11 @@ use Rattle.cache_manager.specs.Pipeline.{Returned, refusedAs, wrongAt, wrote, c
 use Rattle.caching.specs.declared.plan_call.RedisCachePlan.{RedisCachePlan}
 use Rattle.caching.specs.declared.plan_call.PlanAdded.{PlanAdded}
 
--- a refusal: 01's number, and cause 2's offset; nothing is written, and nothing is sent
+-- a refusal: the cause's number, and cause 2's offset; nothing is written, and nothing is sent
 abbrev pub refusedReturn : ℕ → ℕ → RedisCachePlan
 refusedReturn cause at = record { cause = cause; at = at; plan = 0; send = 0; offset = 0; count = 0 }
 
--- 01's number, or 0; the offset of cause 2, "number, an offset"; the bytes written to the plan buffer and to the send buffer; the response counts
+-- the cause's number, or 0; the offset of cause 2 (rule R5); the bytes written to the plan buffer and to the send buffer; the response counts
 abbrev pub planReturn : Returned → RedisCachePlan
 planReturn (refusedAs n) = refusedReturn (causeOf (refusedAs n)) 0
 planReturn (wrongAt o) = refusedReturn (causeOf (wrongAt o)) o

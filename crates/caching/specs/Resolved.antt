@@ -7,7 +7,7 @@ use Rattle.caching_cmd.specs.declared.ResolveAnswer.{ResolveAnswer}
 use Rattle.caching_cmd.specs.Call.{ResolveReturn, causeOf, writtenOf, storesOf, resolveCall}
 use Rattle.caching.specs.declared.resolve_call.RedisCacheResolve.{RedisCacheResolve}
 
--- 01's number, or 0; the bytes of the result and the number of stores refused as 11, both 0 where it is refused
+-- the cause's number, or 0; the bytes of the result and the number of stores refused as 11, both 0 where it is refused
 abbrev pub resolveReturn : ResolveReturn → RedisCacheResolve
 resolveReturn t = record { cause = t .cause; answer = t .written; refused = t .stores }
 

@@ -3,7 +3,7 @@ use Rattle.served.specs.declared.ServedAnswer.{ServedAnswer}
 use Rattle.served.specs.declared.ServedAnswer.the-variants.{Answered, NeedsReplies, Refused}
 use Rattle.caching.specs.declared.served_call.RedisCacheServed.{RedisCacheServed}
 
--- 01's number, or 0; the bytes of the result; whether replies are needed. What is not told is 0
+-- the cause's number, or 0; the bytes of the result; whether replies are needed. What is not told is 0
 abbrev pub servedReturn : ServedAnswer → RedisCacheServed
 servedReturn (Answered n) = record { cause = 0; answer = n; replies = 0 }
 servedReturn NeedsReplies = record { cause = 0; answer = 0; replies = 1 }

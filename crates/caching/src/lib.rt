@@ -28,7 +28,7 @@ ghost use Rattle.caching.specs.Added.{noneYet, addedBy, AddedLeft, Looku
 ghost use Rattle.caching.specs.Place.{placeBy};
 ghost use Rattle.caching.specs.Exported.{setupReturn, flagOf, bytesOf, lookupReturn, startOf, servedBytes, lookupBy, storeBy, invalidateBy};
 
-// What setup returns: 01's number of the cause that refuses it, or 0; the epoch taken; the next epoch number.
+// What setup returns: the number of the cause that refuses it, or 0; the epoch taken; the next epoch number.
 #[repr(C)]
 pub struct RedisCacheSetup {
     pub cause: u64,
@@ -36,14 +36,14 @@ pub struct RedisCacheSetup {
     pub next: u64,
 }
 
-// What a lookup returns: 01's number of the cause that refuses it, or 0; 1 for a hit, else 0.
+// What a lookup returns: the number of the cause that refuses it, or 0; 1 for a hit, else 0.
 #[repr(C)]
 pub struct RedisCacheLookup {
     pub cause: u64,
     pub hit: u64,
 }
 
-// What an invalidation or a push comes to: 01's number of the cause that refuses it, or 0, and what it adds to the counts.
+// What an invalidation or a push comes to: the number of the cause that refuses it, or 0, and what it adds to the counts.
 pub struct Added {
     pub cause: u64,
     pub adds: Statistics,
@@ -72,7 +72,7 @@ fn setup_return(cache: NewCache) -> RedisCacheSetup
     }
 }
 
-// 01's number of an answer.
+// The cause's number in an answer.
 fn answer_number(answer: Answered) -> u64
     ensures { λ r. ⌜ r ≡ answerNumber answer ⌝ }
 {

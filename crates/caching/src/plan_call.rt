@@ -10,7 +10,7 @@ ghost use Rattle.single_calls.specs.Answers.{countsOf};
 ghost use Rattle.cache_manager.specs.Pipeline.{returnedOf};
 ghost use Rattle.caching.specs.Planned.{refusedReturn, planReturn, planBy, PlanLeft};
 
-// What planning returns: 01's number of the cause that refuses it, or 0; cause 2's offset; how many bytes of the plan buffer and of the send buffer are
+// What planning returns: the number of the cause that refuses it, or 0; cause 2's offset; how many bytes of the plan buffer and of the send buffer are
 // written; the response counts.
 #[repr(C)]
 pub struct RedisCachePlan {

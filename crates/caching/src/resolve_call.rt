@@ -5,7 +5,7 @@ ghost use Prim.Native.Nat.{ℕ};
 ghost use Rattle.book.specs.Book.{Counts};
 ghost use Rattle.caching.specs.Resolved.{resolveReturn, answerReturn, resolveBy};
 
-// What resolving returns: 01's number of the cause that refuses it, or 0; how many bytes of the answer buffer are the result; how many stores were
+// What resolving returns: the number of the cause that refuses it, or 0; how many bytes of the answer buffer are the result; how many stores were
 // refused as 11.
 #[repr(C)]
 pub struct RedisCacheResolve {

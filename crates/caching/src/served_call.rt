@@ -6,7 +6,7 @@ ghost use lib.ListN.{length};
 ghost use Rattle.served.specs.Served.{servedCall, servedBuffer};
 ghost use Rattle.caching.specs.ServedAlone.{servedReturn};
 
-// What it returns: 01's number of the cause that refuses it, or 0; how many bytes of the answer buffer are the result; 1 where some command needs
+// What it returns: the number of the cause that refuses it, or 0; how many bytes of the answer buffer are the result; 1 where some command needs
 // replies, else 0.
 #[repr(C)]
 pub struct RedisCacheServed {

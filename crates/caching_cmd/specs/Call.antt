@@ -1,5 +1,5 @@
 -- A resolving as a call: from the settings, the plan and the replies, clock and epoch, the answer buffer and what the caller holds, to everything that
--- comes out. 01's sentences are quoted above the definitions that say them. Assumes nothing: these are the definitions that a reader has to believe.
+-- comes out. Rules are docs/BEHAVIOUR.md's. Assumes nothing: these are the definitions that a reader has to believe.
 use mathlib.Core.Path.{_≡_}
 use mathlib.Core.Bool.{Bool, true, cond}
 use mathlib.Core.List.{List}
@@ -29,7 +29,7 @@ use Rattle.resolving.specs.Result.{resultBytes, callOf}
 use Rattle.caching_cmd.specs.declared.ResolveAnswer.{ResolveAnswer}
 use Rattle.caching_cmd.specs.declared.ResolveAnswer.the-variants.{Answered, Refused}
 
--- 01's number of an answer, 0 where no cause refuses the call; how many bytes the result has; and "the number of stores refused as 11"
+-- the number of the cause that refuses the call, 0 for none; how many bytes the result has; and how many stores found no space (rule S11)
 abbrev pub causeOf : ResolveAnswer → ℕ
 causeOf (Answered written stores) = 0
 causeOf (Refused n) = n
@@ -53,13 +53,13 @@ pub record ResolveReturn : Type 0 where
 abbrev pub returning : ResolveAnswer → Bytes → Held → ResolveReturn
 returning r buffer h = record { cause = causeOf r; written = writtenOf r; stores = storesOf r; buffer = buffer; held = h }
 
--- "Returned: number", "Left as it was: all"
+-- a refusal leaves everything as it was (rule G5)
 abbrev pub refusedAs : ℕ → Bytes → Held → ResolveReturn
 refusedAs n buffer h = returning (Refused n) buffer h
 
 -- ---- causes 7 and 8
 
--- cause 8: "A buffer is short exactly if the bytes to be written are more than it holds."
+-- cause 8 (C8): the answer buffer is too small for the result; where cause 7 refuses there is no result
 unfoldable pub fits : Bool → Resolved → ℕ → Bool
 fits transaction (cause7 ss) room = true
 fits transaction (answered vs ss) room = leb (length (resultBytes transaction vs)) room
@@ -68,12 +68,12 @@ fits transaction (answered vs ss) room = leb (length (resultBytes transaction vs
 unfoldable pub toldTo : Bool → ℕ → Resolved → ℕ → Call
 toldTo transaction epoch v room = cond (fits transaction v room) (callOf epoch v) refused
 
--- "with it comes the number of stores refused as 11"
+-- how many stores found no space (rule S11)
 unfoldable pub refusedOf : Option (List Answer) → ℕ
 refusedOf none = 0
 refusedOf (some said) = refusals said
 
--- "So 7 goes before 8"
+-- cause 7 is judged before cause 8 (rule C12)
 unfoldable pub answerOf : Setup → Bool → ℕ → Resolved → ℕ → Book → ResolveAnswer
 answerOf p transaction epoch (cause7 ss) room bk = Refused badShape
 answerOf p transaction epoch (answered vs ss) room bk =
@@ -81,19 +81,19 @@ answerOf p transaction epoch (answered vs ss) room bk =
     (Answered (length (resultBytes transaction vs)) (refusedOf (replyTo p (callOf epoch (answered vs ss)) bk)))
     (Refused shortAnswer)
 
--- 7: "answer buffer zeroed"; 8: all is left. "Unwritten ends of output buffers are unchanged on success."
+-- the answer buffer afterwards: all zeros under cause 7 (rule S12), untouched under 8, else the result with the buffer's own end behind it (rule G6)
 unfoldable pub bufferAfter : Bool → Resolved → Bytes → Bytes
 bufferAfter transaction (cause7 ss) buffer = replicate (length buffer) 0
 bufferAfter transaction (answered vs ss) buffer =
     cond (leb (length (resultBytes transaction vs)) (length buffer)) (put buffer 0 (resultBytes transaction vs)) buffer
 
--- a resolving on the rows that the arena encodes: "stores of earlier commands remain" where 7 refuses it
+-- a resolving on the rows that the arena encodes; where 7 refuses it, the stores made before it stay (rule S12)
 unfoldable pub resolvedOn : Setup → (ℕ → Row) → Bool → ℕ → Resolved → Bytes → Held → ResolveReturn
 resolvedOn p rows transaction epoch v buffer h =
     returning (answerOf p transaction epoch v (length buffer) (bookOf rows h)) (bufferAfter transaction v buffer)
     (lend p (length (h .arena)) (afterCall p (toldTo transaction epoch v (length buffer)) (bookOf rows h)))
 
--- ---- "Checks run: 1; then 9 (not in setup); then .. in resolving 10, 6, 7, 8."
+-- ---- The causes in the order of rule C12: 1, 9, 10, 6, and then 7 and 8 as above
 
 unfoldable pub planned : Settings → (ℕ → Row) → Option nodes.Plan → Bytes → ℕ → ℕ → Bytes → Held → ResolveReturn
 planned g rows none replies clock epoch buffer h = refusedAs badPlan buffer h

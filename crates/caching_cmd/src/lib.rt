@@ -1,5 +1,5 @@
 // Resolving, after `CacheablePipeline::resolve` of caching/cmd.rs: a plan and the replies to what was sent become the result, and what was fetched is
-// stored. Nothing is asked of the caller: what is wrong is refused by 01's numbers. specs/Call.antt says what comes out, for all input.
+// stored. Nothing is asked of the caller: what is wrong is refused by a cause's number. specs/Call.antt says what comes out, for all input.
 use config::Settings;
 use resolve_pass::Dry;
 use resolve_pass::Room;
@@ -25,7 +25,7 @@ ghost use Rattle.caching_cmd.specs.Parts.{startAt, Finds, Listed, Stored
 pub enum ResolveAnswer {
     // So many bytes of result stand in the answer buffer, and so many stores were refused as 11.
     Answered(usize, u64),
-    // 01's number of the cause.
+    // The cause's number.
     Refused(u64),
 }
 
@@ -35,7 +35,7 @@ enum Found {
     No,
 }
 
-// "A list only from an array; a transaction's list only from an array of one array."
+// Finds the list (rule S1 of docs/BEHAVIOUR.md): a transaction's stands inside another array.
 fn find_list(replies: &[u8], transaction: bool) -> Found
     requires { ⌜ isValue (now replies) ≡ true ⌝ }
     ensures { λ r. ⌜ Finds (now (replies .entry)) transaction r ⌝ }

@@ -139,7 +139,7 @@ found s o e = go (recordF .read s) refl e
 allowed-inside : (s : Bytes) (o : ℕ) → Allowed s o → o ≤ length s
 allowed-inside s o a = ⊎-elim (λ w. let h = w .0 in omega arith) (λ w. let h = w .0 in omega arith) a
 
--- where some valid record begins with the bytes before o, no earlier offset is allowed
+-- where the bytes before o are the beginning of a valid record, no earlier offset is allowed
 none-earlier : (s : Bytes) (o p : ℕ) → o ≤ length s → Begins encRecord ValidRecord (take o s) → Allowed s p → p < o → ⊥
 none-earlier s o p l b a h =
     ⊎-elim
@@ -180,7 +180,7 @@ record-none s w o a =
     omega (arith, ap length z))
     a
 
--- THE OFFSET: the check answers o exactly where o is the first offset that 01 allows
+-- THE OFFSET: the check answers o exactly where o is the first allowed offset
 pub check-offset : (s : Bytes) (o : ℕ) → (checkDef s ≡ Wrong o) ↔ FirstAllowed s o
 check-offset s o = (λ e. first-allowed s o (found s o e), λ w. go w (checkDef s) refl)
   where

@@ -1,5 +1,5 @@
--- What document 01 says of bytes that are no call record: "The offset in 2 is any o whose first o + 1 bytes start no valid record, or
--- the length where the record ends early". Of these the check answers the first. Definitions alone; nothing is assumed.
+-- The offset that comes with cause 2, for bytes that are no call record (rule R5 of docs/BEHAVIOUR.md): which offsets are allowed, and the first of them, which
+-- is what the check answers. Definitions alone; nothing is assumed.
 use mathlib.Core.Path.{_≡_}
 use mathlib.Core.Logic.{_⊎_}
 use mathlib.Core.List.{_++_}
@@ -27,11 +27,11 @@ pub record EndsEarly (s : Bytes) : Type 0 where
   pub bytes : encRecord value ≡ s ++ rest
   pub more : 0 < length rest
 
--- an offset that 01 allows
+-- an offset that may be answered: past the byte there no valid record can be reached any more, or it is the length and only the rest is lacking
 abbrev pub Allowed : Bytes → ℕ → Type 0
 Allowed s o = ((o < length s) × NoneBegins s o) ⊎ ((o ≡ length s) × EndsEarly s)
 
--- the first of them; and some valid record begins with the bytes before it
+-- the first of them; up to it the bytes are still the beginning of a valid record
 pub record FirstAllowed (s : Bytes) (o : ℕ) : Type 0 where
   pub allowed : Allowed s o
   pub first : (p : ℕ) → Allowed s p → o ≤ p

@@ -1,4 +1,4 @@
--- The call record of document 01, "A call comes in": what it holds, its bytes, and when it is valid. Numbers of more than one byte are
+-- The call record (rules R1 to R4 of docs/BEHAVIOUR.md): what it holds, its bytes, and when it is valid. Numbers of more than one byte are
 -- little-endian (`le16`, `le32`, `le64`). Definitions alone; nothing is assumed.
 use mathlib.Core.Path.{_≡_}
 use mathlib.Core.Bool.{Bool, true, false}

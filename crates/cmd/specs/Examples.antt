@@ -110,7 +110,7 @@ shared = refl
 
 -- ---- packing
 
--- 01's `GET a`
+-- `GET a`
 pub get-packed : packed (texts 0 args) ≡ ascii "*2\r\n$3\r\nGET\r\n$1\r\na\r\n"
 unfolding texts blobBytes blob digits
 get-packed = packed-pieces (texts 0 args)

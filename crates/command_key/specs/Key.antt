@@ -1,5 +1,5 @@
--- Command keys, document 01's "Planning": `cmd.data`, the simple arguments joined without marks; for several keys `GET` or `JSON.GET`, key
--- and path. Definitions alone; nothing is assumed.
+-- The bytes of command keys (rules P8, P9 of docs/BEHAVIOUR.md), gathered from where they stand: nobody builds them up before they are stored.
+-- Definitions alone; nothing is assumed.
 use mathlib.Core.Bool.{Bool, true, false}
 use mathlib.Core.List.{List, [], _∷_, _++_}
 use Prim.Native.Nat.{_≤_}

@@ -1,4 +1,4 @@
--- Document 01's case of the name in small letters, and worked examples, computed. Assumes nothing.
+-- The joint table's name in small letters, and worked examples, computed. Assumes nothing.
 use mathlib.Core.Path.{_≡_, refl}
 use mathlib.Core.Bool.{true, false}
 use mathlib.Core.List.{[]}

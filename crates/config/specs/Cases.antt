@@ -1,4 +1,4 @@
--- 01's cases of sizes, and cause 1 at its borders. Assumes nothing.
+-- The joint table's sizes, and cause 1 at its borders. Assumes nothing.
 use mathlib.Core.Path.{_≡_, refl}
 use Prim.Native.Nat.{ℕ, _+_, _-_}
 use mathlib.Core.Bool.{true, false}

@@ -1,46 +1,46 @@
--- The numbers of document 01's causes. Assumes nothing: these are definitions.
+-- The causes' numbers, by name (rules C1 to C11 of docs/BEHAVIOUR.md, which say when each is given). Assumes nothing: these are definitions.
 use Prim.Native.Nat.{ℕ}
 
--- size not 1 to 65,536; mode over 1; arena over 2^31 or under 64 bytes a shard
+-- settings or arena length out of bounds
 abbrev pub badConfig : ℕ
 badConfig = 1
 
--- call record wrong
+-- no call record
 abbrev pub badRecord : ℕ
 badRecord = 2
 
--- call record over 16 MiB; in a single call a key over 65,535 bytes, a command or value over 16 MiB
+-- a record, key, command key or value over its limit
 abbrev pub tooLong : ℕ
 tooLong = 3
 
--- client expiry past 2^64 - 1
+-- a client expiry that needs more than 64 bits
 abbrev pub lateExpiry : ℕ
 lateExpiry = 4
 
--- plan or send buffer short
+-- planning's plan or send buffer too small
 abbrev pub shortBuffer : ℕ
 shortBuffer = 5
 
--- reply, push or singly stored bytes wrong
+-- replies, push or value to store not one RESP3 value
 abbrev pub badReply : ℕ
 badReply = 6
 
--- list or reply of wrong shape, or absent
+-- no list of replies, or no fitting reply for a command
 abbrev pub badShape : ℕ
 badShape = 7
 
--- answer buffer short
+-- resolving's answer buffer too small
 abbrev pub shortAnswer : ℕ
 shortAnswer = 8
 
--- arena not an image under the layout
+-- no arena
 abbrev pub badArena : ℕ
 badArena = 9
 
--- plan not one under the layout
+-- no plan
 abbrev pub badPlan : ℕ
 badPlan = 10
 
--- no space
+-- no space for a store
 abbrev pub noSpace : ℕ
 noSpace = 11

@@ -1,4 +1,5 @@
--- The settings that each call is given, and what becomes of them: 01's cause 1, the shards and what each shard has. Assumes nothing.
+-- The settings that each call is given, and what becomes of them: cause 1, the shards and what each shard has (rules G1, B1, C1 of docs/BEHAVIOUR.md). Assumes
+-- nothing.
 use Prim.Native.Nat.{ℕ, _*_, _/_}
 use mathlib.Core.Bool.{Bool, cond, _||_}
 use lib.Dec.{eqb, ltb}
@@ -9,11 +10,11 @@ use Rattle.config.specs.declared.Settings.{Settings}
 use Rattle.config.specs.declared.CheckedConfig.{CheckedConfig}
 use Rattle.config.specs.declared.CheckedConfig.the-variants.{Fine, Refused}
 
--- a size below 32: one shard; else 32
+-- how many shards a size makes: one while it is small, from 32 on 32
 abbrev pub shardCount : ℕ → ℕ
 shardCount size = cond (ltb size maxShards) 1 maxShards
 
--- the keys of a shard: all of a size below 32, else size / 32 rounded down
+-- how many keys a shard may hold: the whole size where it is the only one, else its thirty-second, rounded down
 abbrev pub shardSize : ℕ → ℕ
 shardSize size = cond (ltb size maxShards) size (size / maxShards)
 
@@ -25,7 +26,7 @@ shardBytes size arena = arena / shardCount size
 abbrev pub modeOf : ℕ → CacheMode
 modeOf mode = cond (eqb mode 0) All OptIn
 
--- cause 1: size not 1 to 65,536; mode over 1; arena over 2^31 or under 64 bytes a shard
+-- cause 1 (C1): the tests in order are size too small, too large, no such mode, arena too long, arena too short for this many shards
 unfoldable pub refused : ℕ → ℕ → ℕ → Bool
 refused size mode arena = ltb size 1 || ltb maxSize size || ltb maxMode mode || ltb maxArena arena || ltb arena (minShardBytes * shardCount size)
 

@@ -1,4 +1,4 @@
--- The limits that document 01 sets, each stated once. Assumes nothing: these are definitions.
+-- The limits of docs/BEHAVIOUR.md, each stated once. Assumes nothing: these are definitions.
 use Prim.Native.Nat.{ℕ, _*_, _^_}
 
 -- the largest size (keys of the whole cache) in the settings; the smallest is 1

@@ -1,4 +1,4 @@
-// The limits of document 01 as specs/Limits.antt defines them, its causes' numbers as specs/Causes.antt does, and the settings of a
+// The limits as specs/Limits.antt defines them, the causes' numbers as specs/Causes.antt does, and the settings of a
 // call: cause 1, the shards and what each has (specs/Config.antt). After config.rs and the sizes of sharded_lru.rs.
 ghost use mathlib.Core.Path.{_≡_};
 ghost use Rattle.config.specs.Config.{shardCount, shardSize, shardBytes, modeOf, checked};

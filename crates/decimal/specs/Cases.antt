@@ -1,4 +1,4 @@
--- Document 01's cases of digits, and worked examples of reading, computed. Assumes nothing.
+-- The joint table's numbers of digits, and worked examples of reading, computed. Assumes nothing.
 use mathlib.Core.Path.{_≡_, refl}
 use mathlib.Core.List.{List, [], _∷_, _++_}
 use Prim.Native.Nat.{ℕ}

@@ -55,7 +55,7 @@ spent-more r m n =
         (λ u. let k = leb-true n 0 u in spent-none (record { left = 0; short = true }) n (omega arith))
         (λ u. spent-short (record { left = 0; short = true }) n (leb-false n 0 u))
 
--- "A buffer is short exactly if the bytes to be written are more than it holds."
+-- a whole buffer turns out short exactly where it is smaller than what is taken (cause 5)
 pub whole-short : (room n : ℕ) → spent (whole room) n .short ≡ ltb room n
 whole-short room n =
     byTest (leb n room)

@@ -21,7 +21,7 @@ unfoldable pub endBytes : Bool → Bytes
 endBytes true = packed execTexts
 endBytes false = []
 
--- "A transaction is wrapped in `MULTI` and `EXEC`, even if empty."
+-- rule P17, as bytes
 pub wrapped-bytes : (b : Bool) (l : List Packed) → sentBytes (wrapped b l) ≡ startBytes b ++ (sentBytes l ++ endBytes b)
 unfolding wrapped startBytes endBytes
 wrapped-bytes true l =

@@ -45,7 +45,7 @@ commandGiven (outcome.item (outcome.notCached cc)) = missingGiven cc
 unfoldable pub planGiven : Bool → List CachingResult → Plan
 planGiven b rs = record { transaction = b; commands = map commandGiven rs }
 
--- ---- "a plan that planning wrote gives that planning's missing keys with their command keys and client expiries"
+-- ---- The missing keys of a planning, which resolving finds in its plan (rule P19)
 
 -- the missing keys of a plan, in their order
 unfoldable pub placesMissing : List Place → List Missing

@@ -1,4 +1,4 @@
--- "no plan that planning wrote" breaks a rule: on well-formed rows every value that a lookup serves is a RESP3 value, so what planning writes there is a plan and is
+-- No plan that planning wrote breaks a rule (C10 of docs/BEHAVIOUR.md): on well-formed rows every value that a lookup serves is a RESP3 value, so what planning writes there is a plan and is
 -- read as its outcomes, with nothing assumed of the answers. Assumes that the rows are well-formed, as those of every image are, and that the record is valid.
 use mathlib.Core.Path.{_≡_, refl, sym, ap, _∙_, subst}
 use mathlib.Core.Bool.{true, false}

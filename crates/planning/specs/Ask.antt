@@ -1,5 +1,5 @@
--- How far a command of a call record gets in planning, and which keys it then asks for: the first half of document 01's "Planning
--- (`get_cached_pipeline`)", each sentence quoted above the definition that says it, in 01's order. Assumes nothing: these are definitions.
+-- How far a command of a call record gets in planning, and which keys it then asks for: rules P1 to P7 of docs/BEHAVIOUR.md, in their order, after
+-- `get_cached_pipeline`. Assumes nothing: these are definitions.
 -- Letters: s settings, t clock, c command, n name, k key, x client expiry.
 use Prim.Native.Nat.{ℕ, _+_, _^_}
 use mathlib.Core.Bool.{Bool, true, false, cond, _||_}
@@ -18,19 +18,20 @@ use Rattle.call_record.specs.Record.{Argument, simple, cursor, Command, ignored
 -- ---- How far a command gets
 
 pub data Reach : Type 0 where
-  -- "An ignored command is sent and not looked up."
+  -- it is ignored (rule P1)
   skipped : Reach
   -- it is stopped as not cacheable
   stopped : Reach
   -- it gets as far as its client expiry, with its name
   named : Bytes → Reach
 
--- "Opt-in mode caches only commands with `enable_cache`. Mode All ignores that flag."
+-- rule P2: in opt-in mode a command has to ask for caching; in mode All every command takes part
 unfoldable pub takesPart : CacheMode → Command → Bool
 takesPart All c = true
 takesPart OptIn c = enableCache c
 
--- "No name, an empty name or a cursor as name: not cacheable. `cmd_len` < 2 counts packed bytes and never occurs."
+-- rule P3: the first argument has to be a name, simple and not empty. (The Rust also stops where
+-- the packed command has fewer than two bytes, which none has.)
 unfoldable pub reachBy : List Argument → Reach
 reachBy [] = stopped
 reachBy (simple [] ∷ l) = stopped
@@ -41,13 +42,13 @@ reachBy (cursor ∷ l) = stopped
 unfoldable pub reach : CacheMode → Command → Reach
 reach m c = cond (ignored c) skipped (cond (takesPart m c) (reachBy (c .args)) stopped)
 
--- ---- "Client expiry = clock + TTL (in either mode the command's client TTL if present, else the default), worked out for every command that
--- gets this far."
+-- ---- Rule P4: until when the client lets an answer be kept, by the command's own TTL or else the default one, in either mode; whatever the name turns
+-- out to be
 
 unfoldable pub clientExpiry : Settings → ℕ → Command → ℕ
 clientExpiry s t c = t + cond (hasTtl c) (c .ttl) (s .ttl)
 
--- cause 4: "client expiry past 2^64 - 1", where one is worked out
+-- cause 4 (C4): the client expiry needs more than 64 bits; only a command that got as far as its name has one
 unfoldable pub pastEnd : Reach → ℕ → Bool
 pastEnd skipped x = false
 pastEnd stopped x = false
@@ -77,7 +78,7 @@ simples [] = []
 simples (simple b ∷ l) = b ∷ simples l
 simples (cursor ∷ l) = simples l
 
--- "simple arguments after the name"
+-- those behind the name (rules P5, P6)
 unfoldable pub afterName : List Argument → List Bytes
 afterName [] = []
 afterName (a ∷ l) = simples l
@@ -94,15 +95,15 @@ lastOnly [] = []
 lastOnly (b ∷ []) = b ∷ []
 lastOnly (b ∷ (d ∷ l)) = lastOnly (d ∷ l)
 
--- "argument 1 is the key. No argument 1: not cacheable. A cursor there panics in Rust; here it is not cacheable."
+-- rule P7, the key: the argument behind the name, which has to be there and to be simple. (At a cursor there the Rust panics.)
 unfoldable pub askOne : List Argument → ℕ → Ask
 askOne [] x = uncacheable
 askOne (a ∷ []) x = uncacheable
 askOne (a ∷ (simple k ∷ l)) x = oneKey k x
 askOne (a ∷ (cursor ∷ l)) x = uncacheable
 
--- "`MGET` and `JSON.MGET`: simple arguments after the name are keys. For JSON the last one is taken off as path." "Otherwise the name must be in
--- the ReadOnlyCacheable arm of `command_properties`, in capitals;"
+-- by the name: `MGET` asks for everything behind it (rule P5), `JSON.MGET` too but for the last, its path (rule P6), any other cacheable name for its one
+-- key (rule P7)
 unfoldable pub askBy : MultiKey → Bytes → List Argument → ℕ → Ask
 askBy Mget n l x = severalKeys n (afterName l) [] x
 askBy JsonMget n l x = severalKeys n (butLast (afterName l)) (lastOnly (afterName l)) x

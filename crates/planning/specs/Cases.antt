@@ -1,4 +1,4 @@
--- Worked cases of planning's lookups and outcomes, document 01's among them, each a theorem by itself, by computing. They lean on Ask.antt and Outcome.antt
+-- Worked cases of planning's lookups and outcomes, those of the joint table among them, each a theorem by itself, by computing. They lean on Ask.antt and Outcome.antt
 -- alone, so that a wrong definition there fails here first. Mode All, a default TTL of 1,800,000 and the clock 5, unless they say otherwise.
 use mathlib.Core.Path.{_≡_, refl}
 use mathlib.Core.Bool.{true, false}
@@ -69,7 +69,7 @@ unfolding
     singleName
 case-defs = tt
 
--- ---- 01's cases
+-- ---- cases of the joint table (crate worked_cases)
 
 -- `JSON.MGET k` is cached, an array of nothing: `*0`; nothing is looked up
 pub json-mget-k : result all 5 (plain (word "JSON.MGET" ∷ word "k" ∷ [])) [] ≡ item (cached (values []))

@@ -33,7 +33,7 @@ both n m = record { offset = n; count = m }
 
 -- ---- one key
 
--- 01's bytes: `PTTL a`, then `GET a`
+-- the joint table's bytes: `PTTL a`, then `GET a`
 pub get-a-bytes : bytes all false (plain get-a ∷ []) (miss ∷ []) ≡ ascii "*2\r\n$4\r\nPTTL\r\n$1\r\na\r\n*2\r\n$3\r\nGET\r\n$1\r\na\r\n"
 unfolding sent-case-defs
 get-a-bytes = refl

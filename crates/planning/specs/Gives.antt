@@ -1,4 +1,4 @@
--- "a plan that planning wrote gives that planning's missing keys with their command keys and client expiries". Assumes nothing.
+-- A plan holds the missing keys of the planning that wrote it, each with its command key and client expiry (rule P19 of docs/BEHAVIOUR.md). Assumes nothing.
 use mathlib.Core.Path.{_≡_, refl, ap, _∙_}
 use mathlib.Core.List.{List, [], _∷_, _++_}
 use Prim.Native.Nat.{ℕ}

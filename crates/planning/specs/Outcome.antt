@@ -1,5 +1,5 @@
--- The outcome of each command, from the answers to its lookups; and the lookups: the second half of document 01's "Planning (`get_cached_pipeline`)",
--- each sentence quoted above the definition that says it, in 01's order. Assumes nothing: these are definitions.
+-- The outcome of each command, from the answers to its lookups; and the lookups: rules P8 to P12 of docs/BEHAVIOUR.md, after `get_cached_pipeline`.
+-- Assumes nothing: these are definitions.
 -- Letters: s settings, t clock, c command, n name, k key, w a key with its command key, x client expiry, v value.
 use Prim.Native.Nat.{ℕ}
 use mathlib.Core.List.{List, [], _∷_, _++_}
@@ -15,7 +15,7 @@ use Rattle.book.specs.Book.{Answer, hit, miss, stored, noSpace, invalidated, nu
 use Rattle.book.specs.Calls.{Wanted}
 use Rattle.planning.specs.Ask.{Ask, nothing, uncacheable, oneKey, severalKeys, simples, ask}
 
--- ---- "The outcome of one command is cached, missing (one key or several) or not cacheable, and an ignored one is none of these."
+-- ---- What can become of a command (rules P1, P11, P12): the Rust's own three enums, the innermost first
 
 -- what is served: a value, or the values of a cached array
 pub data Served : Type 0 where
@@ -42,28 +42,27 @@ pub data CachingResult : Type 0 where
   item : PrepCacheItem → CachingResult
   ignored : CachingResult
 
--- ---- "Command key: `cmd.data`, the simple arguments joined without marks; for several keys `GET` or `JSON.GET`, key, path. Equal joined bytes share
--- an entry; note this in DIFFERENCES."
+-- ---- Command keys (rules P8, P9). Nothing marks where an argument ends, so different commands can share an entry (docs/DIFFERENCES.md)
 
--- byte strings joined without marks
+-- byte strings run together
 unfoldable pub joined : List Bytes → Bytes
 joined [] = []
 joined (b ∷ l) = b ++ joined l
 
--- one key, of the command c
+-- one key, of the command c: all its simple arguments, the name among them (rule P8)
 unfoldable pub wholeKey : Command → Bytes → Wanted
 wholeKey c k = record { key = k; command = joined (simples (c .args)) }
 
--- one of several keys, of the command named n with that path
+-- one of several keys, of the command named n with that path: as the one-key command would have it (rule P9)
 unfoldable pub partKey : Bytes → List Bytes → Bytes → Wanted
 partKey n path k = record { key = k; command = singleName (multiKey n) ++ (k ++ joined path) }
 
--- each of several; "Duplicate keys are looked up .. twice."
+-- each of several; a key that stands twice is looked up twice (rule P5)
 unfoldable pub partKeys : Bytes → List Bytes → List Bytes → List Wanted
 partKeys n path [] = []
 partKeys n path (k ∷ ks) = partKey n path k ∷ partKeys n path ks
 
--- ---- The lookups, in order
+-- ---- The lookups, in order (rule P10)
 
 -- of one command
 unfoldable pub wants : Command → Ask → List Wanted
@@ -110,12 +109,12 @@ servedValues [] = []
 servedValues (filled v ∷ ps) = v ∷ servedValues ps
 servedValues (waiting w ∷ ps) = servedValues ps
 
--- one key
+-- one key (rule P11)
 unfoldable pub singleItem : Place → ℕ → PrepCacheItem
 singleItem (filled v) x = cached (value v)
 singleItem (waiting w) x = notCached (single w x)
 
--- several, from the keys that wait: "None missing (also no key at all): cached array."
+-- several, from the keys that wait: without any the command is served, as an array, which may be empty (rule P12)
 unfoldable pub multipleItem : List Wanted → Bytes → List Place → List Bytes → ℕ → PrepCacheItem
 multipleItem [] n ps path x = cached (values (servedValues ps))
 multipleItem (w ∷ ws) n ps path x = notCached (multiple n ps path x)

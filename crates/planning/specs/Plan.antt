@@ -29,7 +29,7 @@ pub data Node : Type 0 where
   waitingPlace : Wanted → ℕ → Node
   endOfSeveral : Node
 
--- values that are all served; "Served values are copied into the plan."
+-- values that are all served: the plan holds their bytes (rule P19)
 unfoldable pub valueNodes : List Bytes → List Node
 valueNodes [] = []
 valueNodes (v ∷ vs) = servedValue v ∷ valueNodes vs

@@ -36,12 +36,12 @@ plannedBy s r rs =
 unfoldable pub plannedFrom : Settings → ℕ → Record → List Answer → Planned
 plannedFrom s t r said = plannedBy s r (outcomes s t (r .commands) said)
 
--- cause 5: "A buffer is short exactly if the bytes to be written are more than it holds."
+-- cause 5 (rules P20, C5): what is to be written into one of the two buffers is longer than the buffer
 unfoldable pub short : Settings → ℕ → Record → ℕ → ℕ → List Answer → Bool
 short s t r planRoom sendRoom said =
     ltb planRoom (length (plannedFrom s t r said .plan)) || ltb sendRoom (length (plannedFrom s t r said .send))
 
--- the call that the book is fed: "A planning is its lookups in order"; cause 4 refuses it whatever they would answer
+-- the call that the book is told of (rule B14): its lookups; cause 4 refuses it whatever they would answer
 unfoldable pub callOf : Settings → ℕ → ℕ → Record → ℕ → ℕ → Call
 callOf s t e r planRoom sendRoom =
     cond (anyLate s t (r .commands)) refused (planning t e (wanted s t (r .commands)) (short s t r planRoom sendRoom))
@@ -51,7 +51,7 @@ pub data PlanAnswer : Type 0 where
   because : ℕ → PlanAnswer
   done : Planned → PlanAnswer
 
--- what planning answers, by what its lookups answer; "in planning 3, 2, 4, 5"
+-- what planning answers, by what its lookups answer: cause 4 comes before cause 5 (rule C12)
 unfoldable pub planAnswer : Settings → ℕ → Record → ℕ → ℕ → List Answer → PlanAnswer
 planAnswer s t r planRoom sendRoom said =
     cond (anyLate s t (r .commands)) (because lateExpiry)

@@ -1,5 +1,5 @@
--- What planning sends, as commands and as bytes, and the responses to it: document 01's "Sent for one missing key ..", each sentence quoted above the
--- definition that says it, in 01's order. Assumes nothing: these are definitions.
+-- What planning sends, as commands and as bytes, and the responses to it: rules P13 to P18 of docs/BEHAVIOUR.md, in their order. Assumes nothing: these are
+-- definitions.
 -- Letters: m mode, c command, k key, w a key with its command key, n name, x client expiry.
 use Prim.Native.Nat.{ℕ, _+_}
 use mathlib.Core.Bool.{Bool, true, false}
@@ -17,7 +17,7 @@ use Rattle.planning.specs.Outcome.{CacheableCommand, single, multiple, c
 abbrev pub Packed : Type 0
 Packed = List Bytes
 
--- the command itself
+-- the command itself, cursors printed (rule P13)
 unfoldable pub itself : Command → Packed
 itself c = texts (c .cursor) (c .args)
 
@@ -31,18 +31,18 @@ unfoldable pub pttls : List Bytes → List Packed
 pttls [] = []
 pttls (k ∷ ks) = pttlTexts k ∷ pttls ks
 
--- "Sent for one missing key: `PTTL` key, then the command. For several: the name with missing keys and path, then each `PTTL`." (`pack_command`.)
--- "Duplicate keys are .. sent twice."
+-- for a command with missing keys (`pack_command`). One key: its `PTTL` first, the command behind it (rule P14). Several: the command cut down to what is
+-- missing first, a `PTTL` for each of these keys behind it (rule P15); a key that waits twice is in both twice
 unfoldable pub packs : Command → CacheableCommand → List Packed
 packs c (single w x) = pttlTexts (w .key) ∷ itself c ∷ []
 packs c (multiple n ps path x) = (n ∷ (keysOf (missing ps) ++ path)) ∷ pttls (keysOf (missing ps))
 
--- "In opt-in mode `CLIENT CACHING YES` goes before either."
+-- rule P16: in opt-in mode the server has to be told first that the next command is to be tracked
 unfoldable pub optInFirst : CacheMode → List Packed → List Packed
 optInFirst All l = l
 optInFirst OptIn l = cachingTexts ∷ l
 
--- what is sent for one command. "An ignored command is sent"; so is one that is not cacheable; for a cached one there is nothing to send
+-- what is sent for one command: an ignored one and one that is not cacheable go as they are (rule P13); for a cached one there is nothing to send
 unfoldable pub sends : CacheMode → Command → CachingResult → List Packed
 sends m c ignored = itself c ∷ []
 sends m c (item notCacheable) = itself c ∷ []
@@ -55,7 +55,7 @@ sent m [] rs = []
 sent m (c ∷ cs) [] = []
 sent m (c ∷ cs) (r ∷ rs) = sends m c r ++ sent m cs rs
 
--- "A transaction is wrapped in `MULTI` and `EXEC`, even if empty."
+-- rule P17: the frame of a transaction, which an empty one has too
 unfoldable pub wrapped : Bool → List Packed → List Packed
 wrapped true l = multiTexts ∷ (l ++ (execTexts ∷ []))
 wrapped false l = l
@@ -65,7 +65,8 @@ pub record Responses : Type 0 where
   pub offset : ℕ
   pub count : ℕ
 
--- "Response counts: (sent + 1, 1) for a transaction, else (0, sent); `MULTI` and `EXEC` are not in sent."
+-- rule P18, where n commands stand inside the frame, if there is one: of a transaction the host skips what `MULTI` and these n answer and takes what `EXEC`
+-- does; else it takes all n
 unfoldable pub responses : Bool → ℕ → Responses
 responses true n = record { offset = n + 1; count = 1 }
 responses false n = record { offset = 0; count = n }

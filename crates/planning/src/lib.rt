@@ -1,1 +1,1 @@
-// No code: document 01's planning is definitions and theorems, in specs/.
+// No code: planning (part P of docs/BEHAVIOUR.md) as definitions and theorems, in specs/.

@@ -1,5 +1,5 @@
--- A push: document 01's "Pushes", from the settings, the bytes and what the caller holds to 01's number and what the caller holds then. 01's sentences are quoted
--- above the definitions that say them; which keys a push names is resolving's `pushed` (Pushes.antt there). Assumes nothing: these are definitions.
+-- The whole call for a push, from the settings, the bytes and what the caller holds to the cause's number and what the caller holds then. Which keys a push
+-- names (rules U1 to U4 of docs/BEHAVIOUR.md) is resolving's `pushed` (Pushes.antt there). Assumes nothing: these are definitions.
 use Prim.Native.Nat.{ℕ}
 use mathlib.Core.Bool.{cond}
 use mathlib.Core.Option.{Option, none, some}
@@ -20,15 +20,15 @@ use Rattle.resolving.specs.Pushes.{pushed}
 use Rattle.sharded_lru.specs.Lent.{setupNow}
 use Rattle.single_calls.specs.Single.{noCause, Return, refusedAs}
 
--- the book's call: "Replies, a push and a value given to a single store are each exactly one value with nothing after it, at most 16 MiB."
+-- the book's call: the push where the bytes are one value (rules V7, C6), a refused call where they are not
 unfoldable pub callFor : Bytes → Call
 callFor bytes = cond (isValue bytes) (pushed (decode bytes)) refused
 
--- a push that no cause refuses, on the rows that the arena encodes: "a push [is] its invalidations"
+-- a push that no cause refuses, on the rows that the arena encodes: its invalidations (rule B14)
 unfoldable pub pushedOn : Setup → (ℕ → Row) → Value → Held → Return
 pushedOn p rows v h = record { cause = noCause; value = none; held = lend p (length (h .arena)) (afterCall p (pushed v) (bookOf rows h)) }
 
--- "Checks run: 1; then 9 (not in setup); then .. in a push 6"
+-- the causes, in the order of rule C12: 1, 9, 6
 unfoldable pub imaged : Setup → Option (ℕ → Row) → Bytes → Held → Return
 imaged p none bytes h = refusedAs badArena h
 imaged p (some rows) bytes h = cond (isValue bytes) (pushedOn p rows (decode bytes) h) (refusedAs badReply h)

@@ -1,4 +1,4 @@
-// Pushes: "`>`, first element blob `invalidate`. Then an array invalidates its keys one by one (other kinds skipped), `_` everything; all else is ignored."
+// Pushes, by which the server says what is no longer true: rules U1 to U4 of docs/BEHAVIOUR.md.
 // After the push handling of cache_manager.rs. specs/Push.antt says what a push returns and leaves; inner functions speak of whatever book the
 // arena and the counts are those of.
 use config::Settings;

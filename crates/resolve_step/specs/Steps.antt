@@ -34,7 +34,7 @@ use Rattle.resolve_step.specs.declared.Readied.the-variants.{Go, Stop}
 
 -- ---- what a step says
 
--- "Each element handed out is a part of the plan or of the replies": the part that holds it
+-- the bytes of the element that is handed out (rule S10), in the plan or in the replies
 abbrev pub elementBytes : Bytes → Bytes → Next → Bytes
 elementBytes p s (Plan a e) = part p a (e - a)
 elementBytes p s (Reply a e) = part s a (e - a)

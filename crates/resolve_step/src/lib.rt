@@ -1,6 +1,6 @@
 // One step of resolving, over a plan's nodes and the list of replies: every pass of resolving is a loop over `step_at`, so that all of them say the
 // same. After caching/cmd.rs; its iterators are the cursors here. specs/Steps.antt says what a step means, crate resolve_walk what all steps do.
-// `list` is the list of replies: exactly one array. Elements are handed out as parts of the plan or of the replies.
+// `list` is the list of replies: exactly one array. What is handed out is never copied: each element is a part of one of the two.
 use config::CacheMode;
 use plan::NodeHead;
 use resp3_element::Cursor;
@@ -352,7 +352,7 @@ pub fn step_at(plan: &[u8], list: &[u8], c: Walk, mode: CacheMode, clock: u64) -
     on_node(list, behind, n, mode, clock)
 }
 
-// What a step hands out, as a part of the plan or of the replies.
+// What a step hands out, where it stands: in one slice or the other.
 pub fn element_part<'a>(plan: &'a [u8], list: &'a [u8], next: Next) -> &'a [u8]
     requires { ⌜ NextIn (now plan) (now list) next ⌝ }
     ensures bytes { λ r. ⌜ now r ≡ elementBytes (now (plan .entry)) (now (list .entry)) next ⌝ }

@@ -1,5 +1,5 @@
-// The store pass of resolving: the same walk, storing what each step keeps, up to the end or up to the step that finds no fitting reply. "A store
-// refused as 11 does not stop the later ones": those refused are counted. specs/Stores.antt says it on the book. After `CacheablePipeline::resolve`.
+// The store pass of resolving: the same walk, storing what each step keeps, up to the end or up to the step that finds no fitting reply. A store
+// that finds no space stops nothing: it is counted (rule S11 of docs/BEHAVIOUR.md). specs/Stores.antt says it on the book. After `CacheablePipeline::resolve`.
 use config::CacheMode;
 use config::Settings;
 use resolve_step::Missed;

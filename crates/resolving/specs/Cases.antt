@@ -1,4 +1,4 @@
--- Worked cases of resolving, each a theorem by itself, by computing; P marks 01's own. They lean on the definitions alone.
+-- Worked cases of resolving, each a theorem by itself, by computing; P marks those of the joint table (crate worked_cases). They lean on the definitions alone.
 use mathlib.Core.Path.{_≡_, refl}
 use mathlib.Core.Bool.{true, false}
 use mathlib.Core.List.{List, [], _∷_}
@@ -65,7 +65,7 @@ transaction cs = record { transaction = true; commands = cs }
 
 -- ---- expiries
 
--- P clock 10, PTTL 1, client expiry 500: 11
+-- P at clock 10 a PTTL of 1 ends at 11, before the client's 500
 pub pttl-1 : resolve (plan (single (missing "a") ∷ [])) All 10 (list (int 1 ∷ text "u" ∷ [])) ≡ answered (row (text "u" ∷ [])) (stored "a" (text "u") 11 ∷ [])
 unfolding resolve
 pttl-1 = refl
@@ -99,7 +99,7 @@ pttl-past-64 = refl
 
 -- ---- several keys
 
--- P two waiting keys, three elements: three PTTLs taken
+-- P for two keys that wait, an array of three uses up three PTTLs
 pub three-taken : fill 10 (waiting (missing "a") ∷ waiting (missing "b") ∷ []) (row (text "u" ∷ text "w" ∷ text "x" ∷ [])) (row (int 1 ∷ int 2 ∷ int 3 ∷ int 4 ∷ []))
     ≡ record { places = row (text "u" ∷ text "w" ∷ []); stores = stored "a" (text "u") 11 ∷ stored "b" (text "w") 12 ∷ []; rest = row (int 4 ∷ []) }
 three-taken = refl

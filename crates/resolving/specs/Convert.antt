@@ -1,6 +1,6 @@
--- 01's "Conversions outside the files". Assumes nothing: these are the definitions that a reader has to believe.
--- "A list only from an array" is `arrayOf`, and "a PTTL only from an integer" is `integerOf`, both of resp3_element's Meaning.antt; "a key only from a
--- blob string" is in Pushes.antt, the only place where a key is read from a value.
+-- How the replies become a list (rule S1 of docs/BEHAVIOUR.md). Assumes nothing: these are the definitions that a reader has to believe.
+-- The other conversions of a value (rule V9): to a list by `arrayOf` and to a PTTL by `integerOf`, both of resp3_element's Meaning.antt; to a key by `keysOf`
+-- of Pushes.antt, the only place where a key is read from a value.
 use mathlib.Core.Bool.{Bool, true, false}
 use mathlib.Core.Option.{Option, some}
 use mathlib.Core.Option as option
@@ -18,7 +18,7 @@ abbrev pub thenOnlyList : Option Values → Option Values
 thenOnlyList option.none = option.none
 thenOnlyList (some vs) = onlyList vs
 
--- "a list only from an array; a transaction's list only from an array of one array"
+-- rule S1: what a call without a transaction gets is itself the list; a transaction's list is the one element of what it gets
 abbrev pub repliesOf : Bool → Value → Option Values
 repliesOf false v = arrayOf v
 repliesOf true v = thenOnlyList (arrayOf v)

@@ -11,7 +11,7 @@ use lib.Dec.{ltb}
 use Rattle.resolving.specs.Store.{expiryOf}
 use Rattle.resolving.specs.Cases.{pttl-past-64}
 
--- "a sum past 64 bits counts as the larger": the client expiry, which has 64 bits, is the smaller
+-- a sum past 64 bits is never the sooner end (rule S9): the client expiry has 64 bits and is smaller
 pub past-64 : (clock client n : ℕ) → client < 2 ^ 64 → 2 ^ 64 ≤ clock + n → expiryOf clock client (Is (pos n)) ≡ client
 past-64 clock client n small large = byTest (ltb 0 n) (λ e. rw e (omega arith)) (λ e. rw e)
 

@@ -6,7 +6,7 @@ use Prim.Native.Nat.{ℕ}
 use Rattle.buffer.specs.Same.{Bytes}
 use Rattle.resp3.specs.Value.{Value, Values}
 
--- "missing keys with their command keys and client expiries"
+-- what the plan keeps of a missing key (rule P19), for its store
 pub record Missing : Type 0 where
   pub key : Bytes
   pub command : Bytes
@@ -17,7 +17,7 @@ pub data Place : Type 0 where
   served : Value → Place
   waiting : Missing → Place
 
--- "The outcome of one command is cached, missing (one key or several) or not cacheable, and an ignored one is none of these."
+-- what planning found out about a command, as far as its replies go (rules S3 to S6)
 pub data Command : Type 0 where
   -- ignored or not cacheable: its reply is handed on
   handedOn : Command

@@ -1,5 +1,5 @@
--- 01's "Resolving (`CacheablePipeline::resolve`)", each sentence quoted above the definition that says it. Assumes nothing: these are the definitions that
--- a reader has to believe. Its conversions are in Convert.antt, errors and expiries in Store.antt, the result's bytes in Result.antt.
+-- Resolving, after `CacheablePipeline::resolve`: rules S2 to S7 and S12 of docs/BEHAVIOUR.md. Assumes nothing: these are the definitions that a reader has to
+-- believe. The list of replies is in Convert.antt, errors and expiries in Store.antt, the result's bytes in Result.antt.
 use mathlib.Core.List.{List, [], _∷_, _++_}
 use mathlib.Core.Option.{Option, some}
 use mathlib.Core.Option as option
@@ -18,18 +18,18 @@ pub data Outcome : Type 0 where
   wrong : Outcome
   gives : Value → List Storing → Values → Outcome
 
--- a command whose reply is handed on takes one, which must exist
+-- a command whose reply is handed on takes one, which must exist (rule S3)
 abbrev pub takeReply : Values → Outcome
 takeReply none = wrong
 takeReply (more v rs) = gives v [] rs
 
--- "Opt-in: a missing command first drops one reply." (It must exist.)
+-- rule S4: in opt-in mode the reply in front answers `CLIENT CACHING YES`; it must be there, and nobody looks at it
 abbrev pub optIn : CacheMode → Values → (Values → Outcome) → Outcome
 optIn All rs take = take rs
 optIn OptIn none take = wrong
 optIn OptIn (more v rs) take = take rs
 
--- "One key: takes PTTL, then reply; both must exist."
+-- rule S5: the reply to `PTTL` and the command's own, neither of which may be lacking
 abbrev pub takeSingle : ℕ → Missing → Values → Outcome
 takeSingle clock m none = wrong
 takeSingle clock m (more pttl none) = wrong
@@ -45,14 +45,15 @@ pub record Filled : Type 0 where
 abbrev pub placed : Value → List Storing → Filled → Filled
 placed v ss f = record { places = more v (f .places); stores = ss ++ f .stores; rest = f .rest }
 
--- "A longer array so eats one PTTL more": the PTTLs left after the last waiting key, from the elements left and the PTTLs. (It eats none where there is none.)
+-- the PTTLs left after the last waiting key, from the elements left and the PTTLs (rule S6): where an element is left over, its PTTL has been taken before
+-- it is seen that no key waits for it, if there was one to take
 abbrev pub eaten : Values → Values → Values
 eaten none pttls = pttls
 eaten (more v vs) none = none
 eaten (more v vs) (more pttl pttls) = pttls
 
--- "Then, in turn, an element, a PTTL, a waiting key, stopping where one is absent." "A shorter one leaves PTTLs for the next command. Unfilled places stay `_`."
--- The elements of the array, and then the PTTLs, which are the replies after it.
+-- rules S6, S7: elements, PTTLs and waiting keys in step, as long as there are all three; a waiting place beyond that answers `_`, and the PTTLs that are
+-- left go to the next command. Given are the elements of the array, and then the PTTLs, which are the replies after it.
 abbrev pub fill : ℕ → List Place → Values → Values → Filled
 fill clock [] vs pttls = record { places = none; stores = []; rest = eaten vs pttls }
 fill clock (served v ∷ ps) vs pttls = placed v [] (fill clock ps vs pttls)
@@ -69,7 +70,7 @@ abbrev pub fillFrom : ℕ → List Place → Option Values → Values → Outcom
 fillFrom clock ps option.none pttls = wrong
 fillFrom clock ps (some vs) pttls = asArray (fill clock ps vs pttls)
 
--- "Several: takes one reply, which must be an array."
+-- rule S6: the reply of a several-key command
 abbrev pub takeMultiple : ℕ → List Place → Values → Outcome
 takeMultiple clock ps none = wrong
 takeMultiple clock ps (more v rs) = fillFrom clock ps (arrayOf v) rs
@@ -82,7 +83,7 @@ takeCommand mode clock (cachedArray vs) rs = gives (array vs) [] rs
 takeCommand mode clock (single m) rs = optIn mode rs (λ q. takeSingle clock m q)
 takeCommand mode clock (multiple ps) rs = optIn mode rs (λ q. takeMultiple clock ps q)
 
--- what becomes of a plan: cause 7, "stores of earlier commands remain"; or the answers, one for each command, and the stores, both in order
+-- what becomes of a plan: cause 7, with the stores made before it (rule S12); or the answers, one for each command, and the stores, both in order
 pub data Resolved : Type 0 where
   cause7 : List Storing → Resolved
   answered : Values → List Storing → Resolved
@@ -97,7 +98,7 @@ abbrev pub goOn : Outcome → (Values → Resolved) → Resolved
 goOn wrong next = cause7 []
 goOn (gives v ss rs) next = behind v ss (next rs)
 
--- the commands, in their order; replies left over are ignored
+-- the commands, in their order; replies left over are ignored (rule S2)
 abbrev pub takeCommands : CacheMode → ℕ → List Command → Values → Resolved
 takeCommands mode clock [] rs = answered none []
 takeCommands mode clock (c ∷ cs) rs = goOn (takeCommand mode clock c rs) (λ q. takeCommands mode clock cs q)

@@ -6,7 +6,7 @@ use Rattle.resp3.specs.Value.{Value, Values, array, none, more, encode}
 use Rattle.book.specs.Calls.{Call, resolving, resolving7}
 use Rattle.resolving.specs.Resolve.{Resolved, cause7, answered}
 
--- "The result is `*n` and the answers, in a transaction inside `*1`": the value that it is. (ResultLaws.antt writes it out.)
+-- the value that resolving answers (rule S10): an array of the answers, around which a transaction has a second one. (ResultLaws.antt writes it out.)
 abbrev pub resultOf : Bool → Values → Value
 resultOf false answers = array answers
 resultOf true answers = array (more (array answers) none)
@@ -15,7 +15,7 @@ resultOf true answers = array (more (array answers) none)
 unfoldable pub resultBytes : Bool → Values → Bytes
 resultBytes transaction answers = encode (resultOf transaction answers)
 
--- "a resolving its stores, under its own clock and epoch": what the book is told, the epoch given
+-- what the book is told (rule B14), the epoch given
 abbrev pub callOf : ℕ → Resolved → Call
 callOf epoch (cause7 ss) = resolving7 epoch ss
 callOf epoch (answered vs ss) = resolving epoch ss

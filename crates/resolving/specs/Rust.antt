@@ -133,7 +133,7 @@ commandLoop transaction mode now [] replies response lru = returned (finish tran
 commandLoop transaction mode now (c ∷ cs) replies response lru =
     attempt (arm mode now c replies lru) (λ l. failed l) (λ v l rest. commandLoop transaction mode now cs rest (pushBack response v) l)
 
--- `from_redis_value(result)?`, with 01's meaning
+-- `from_redis_value(result)?`, by rule S1
 abbrev pub fromValue : Option Values → (Values → Returned) → Returned
 fromValue option.none next = failed []
 fromValue (some replies) next = next replies

@@ -11,17 +11,17 @@ use Rattle.resp3_element.specs.Meaning.{isError, integerOf}
 use Rattle.book.specs.Calls.{Storing}
 use Rattle.resolving.specs.Plan.{Missing}
 
--- "PTTL > 0: expiry is the smaller of clock + PTTL and client expiry; a sum past 64 bits (a possible panic in Rust) counts as the larger. Other PTTL:
--- client expiry." (Numbers do not end here and a client expiry has 64 bits, so a sum past them is the larger: Expiry.antt.)
+-- rule S9, the expiry: the client's, unless the server's time to live is positive and ends sooner. (Numbers do not end here and a client expiry has 64 bits,
+-- so that a sum past 64 bits never ends sooner: Expiry.antt. In the Rust it may panic.)
 abbrev pub expiryOf : ℕ → ℕ → Integer → ℕ
 expiryOf clock client No = client
 expiryOf clock client (Is (pos n)) = cond (ltb 0 n) (min (clock + n) client) client
 expiryOf clock client (Is (negsuc n)) = client
 
--- the store of a reply
+-- the store of a reply (rule S9)
 abbrev pub storing : ℕ → Missing → Value → Value → Storing
 storing clock m pttl v = record { key = m .key; command = m .command; value = encode v; expiry = expiryOf clock (m .expiry) (integerOf pttl) }
 
--- "Server errors (`-`, `!`) are passed on and not stored."
+-- rule S8: a server error is never stored
 abbrev pub storeOf : ℕ → Missing → Value → Value → List Storing
 storeOf clock m pttl v = cond (isError v) [] (storing clock m pttl v ∷ [])

@@ -1,1 +1,1 @@
-// No code: what document 01's resolving and pushes do are definitions and theorems, in specs/.
+// No code: resolving and pushes (parts S and U of docs/BEHAVIOUR.md) as definitions and theorems, in specs/.

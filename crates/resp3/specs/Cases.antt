@@ -1,4 +1,4 @@
--- 01's cases on reading: depth 16 is read and 17 refused; and what its "Reply bytes" rule out. Assumes nothing.
+-- Cases on reading: sixteen levels and seventeen; and what part V of docs/BEHAVIOUR.md rules out. Assumes nothing.
 use mathlib.Core.Path.{_≡_, refl}
 use mathlib.Core.Bool.{true, false}
 use Prim.Native.Nat.{ℕ, zero, suc}

@@ -47,7 +47,7 @@ shapeOf Attribute = PairsAndValue  -- count, CR LF, twice as many values, one va
 shapeOf Push = ListS
 shapeOf Unknown = Nothing
 
--- all kinds, in document 01's order
+-- all kinds, in the order of rule V1
 abbrev pub kinds : List Kind
 kinds = BlobString ∷ SimpleString ∷ SimpleError ∷ Number ∷ Null ∷ Double ∷ Boolean ∷ BlobError ∷ VerbatimString ∷ BigNumber ∷ Array ∷ Map ∷ Set ∷ Attribute ∷ Push ∷ []
 

@@ -1,5 +1,5 @@
 -- RESP3's values, and how each is written. Assumes nothing: these are the definitions that a reader has to believe.
--- They follow the RESP3 specification, cut and sharpened by document 01's "Reply bytes".
+-- They follow the RESP3 specification, cut and sharpened by part V of docs/BEHAVIOUR.md.
 use mathlib.Core.Path.{_≡_}
 use mathlib.Core.Bool.{Bool, true, false, cond, not}
 use mathlib.Core.List.{[], _∷_, _++_}
@@ -15,7 +15,7 @@ use Rattle.resp3.specs.declared.Kind.the-variants.{BlobString, SimpleStr
 use Rattle.resp3.specs.Kinds.{byteOf}
 
 -- The 15 kinds, by RESP3's names, each with what it holds; beside it RESP3's form, with lines that end in CR LF shown as <..>.
--- Doubles and big numbers are kept as text, since 01 does not interpret them.
+-- Doubles and big numbers are kept as text, since nothing reads the number in them (rule V3).
 mutual
   pub data Value : Type 0 where
     blobString : Bytes → Value  -- <$length> <bytes>
@@ -187,7 +187,7 @@ pub record Means (s : Bytes) (v : Value) : Type 0 where
   pub deep : depth v ≤ maxDepth
   pub is : s ≡ encode v
 
--- what replies, a push and a value given to a store have to be: exactly one value of at most 16 MiB
+-- what replies, pushes and values to store have to be (rule V7): one value, whole and alone, within 16 MiB and 16 levels
 pub record IsValue (s : Bytes) : Type 0 where
   pub small : length s ≤ maxBytes
   pub v : Value

@@ -116,7 +116,7 @@ too-many : firstValue (ascii "*5592403\r\n") ≡ Never
 unfolding case-defs
 too-many = refl
 
--- "nests at most 16 deep, the outermost counting 1"
+-- sixteen levels, the outermost among them, and no more (rule V6)
 abbrev arrays : ℕ → Bytes → Bytes
 arrays zero r = r
 arrays (suc n) r = ascii "*1\r\n" ++ arrays n r

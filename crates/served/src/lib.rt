@@ -22,7 +22,7 @@ pub enum ServedAnswer {
     Answered(usize),
     // Some command needs replies.
     NeedsReplies,
-    // 01's number of the cause.
+    // The number of the cause.
     Refused(u64),
 }
 

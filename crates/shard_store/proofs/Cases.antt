@@ -22,13 +22,13 @@ same-rows {s} {t} {r} n p q w =
     }
 
 module _ (n : ℕ) (k c v : Bytes) (x e : ℕ) (row : Row) where
-  -- "the key's item under this epoch gets value and expiry, unmoved"
+  -- an item of this epoch is changed in its place (rule B7)
   pub case-update : (it : Item) (g : Place k row it) → find k row ≡ some it → e ≡ it .epoch
       → g .front ++ (updated c v x it ∷ g .back) ≡ storedRow n (find k row) k c v x e row
   unfolding storedRow
   case-update it g f q = rw f (rw (eq-eqb e (it .epoch) q) (sym (g .replaced (updated c v x it))))
 
-  -- "Otherwise the key's item goes .. and a new item of this store is newest"
+  -- one of another epoch makes way for a new item in front (rule B8)
   pub case-replace : (it : Item) (g : Place k row it) → find k row ≡ some it → (e ≡ it .epoch → ⊥)
       → newItem k c v x e ∷ (g .front ++ g .back) ≡ storedRow n (find k row) k c v x e row
   unfolding storedRow
@@ -39,7 +39,7 @@ module _ (n : ℕ) (k c v : Bytes) (x e : ℕ) (row : Row) where
   unfolding storedRow roomForOne
   case-new f l = rw f (rw (lt-leb n (length row) l))
 
-  -- "or, with none, a full shard's oldest"
+  -- no item, and a full shard: the oldest makes way (rule B8)
   pub case-evict : find k row ≡ none → n ≤ length row → newItem k c v x e ∷ withoutOldest row ≡ storedRow n (find k row) k c v x e row
   unfolding storedRow roomForOne
   case-evict f l = rw f (rw (le-leb n (length row) l))

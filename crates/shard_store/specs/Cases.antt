@@ -1,4 +1,4 @@
--- The book's store is `storeOn`, and 01's case of the space rule. Assumes nothing.
+-- The book's store is `storeOn`, and a case of the space rule. Assumes nothing.
 use mathlib.Core.Path.{_≡_, refl}
 use Prim.Native.Nat.{ℕ}
 use mathlib.Core.List.{[]}

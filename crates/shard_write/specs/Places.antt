@@ -15,11 +15,11 @@ use Rattle.shard_write.specs.declared.Fields.{Fields}
 abbrev pub newEntry : Bytes → Bytes → Entry
 newEntry c v = record { command = c; value = v }
 
--- "an entry 16 + command key + value"
+-- the bytes of an entry (rule B9)
 abbrev pub entryRoom : Bytes → Bytes → ℕ
 entryRoom c v = 16 + length c + length v
 
--- "An item takes 32 + key", with one entry
+-- and of an item with one entry
 abbrev pub itemRoom : Bytes → Bytes → Bytes → ℕ
 itemRoom k c v = 32 + length k + entryRoom c v
 

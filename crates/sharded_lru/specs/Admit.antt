@@ -1,4 +1,4 @@
--- Causes 1 and 9, with which every call on an arena begins: "Checks run: 1; then 9 (not in setup)". What a call that passes them knows of its arena. Assumes
+-- Causes 1 and 9, with which every call on an arena but setup begins (rule C12 of docs/BEHAVIOUR.md). What a call that passes them knows of its arena. Assumes
 -- nothing.
 use mathlib.Core.Path.{_≡_, refl, sym}
 use Prim.Native.Nat.{ℕ}
@@ -20,7 +20,7 @@ use Rattle.sharded_lru.specs.declared.Admitted.{Admitted}
 use Rattle.sharded_lru.specs.declared.Admitted.the-variants.{Admits, Refused}
 use Rattle.sharded_lru.specs.Lent.{setupNow, Lent, Arena}
 
--- from the outcome of cause 1's test: "9 is given exactly if no run of calls .. could leave those bytes" (arena/specs/Sizes.antt, `cause-nine-for`)
+-- from the outcome of cause 1's test; which bytes cause 9 refuses is rule A2 (arena/specs/Sizes.antt, `cause-nine-for`)
 abbrev pub admittedBy : CheckedConfig → Bytes → Admitted
 admittedBy BadConfig s = Refused badConfig
 admittedBy (Fine g) s = cond (isImage isValue (setupNow g) s) (Admits g) (Refused badArena)

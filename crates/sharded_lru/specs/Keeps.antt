@@ -1,4 +1,4 @@
--- Every event that 01 lets through keeps its shard's row fine, so that it may come back to its arena. Assumes of a store that its value may be stored.
+-- Every event that the causes let through keeps its shard's row fine, so that it may come back to its arena. Assumes of a store that its value may be stored.
 use mathlib.Core.Path.{_≡_, sym, ap, _∙_}
 use Prim.Native.Nat.{ℕ, _^_, _≤_, _<_}
 use mathlib.Core.Bool.{true}
@@ -15,11 +15,11 @@ use Rattle.arena.specs.Decode.{mayStore}
 use Rattle.arena.specs.Tests.{yes-every, FineRow}
 use Rattle.shard_store.specs.Store.{Storable}
 
--- what 01 lets an event store
+-- what an event may store
 abbrev pub MayStore : Keyed → Type 0
 MayStore q = StorableKeyed (mayStore isValue) q
 
--- a store's key, command key and value within 01's limits, the value a value
+-- a store's key, command key and value within the limits, the value a value
 pub may-store : (k c v : Bytes) (x e : ℕ) → Storable k c v → isValue v ≡ true → x < 2 ^ 64 → e < 2 ^ 64 → MayStore (store k c v x e)
 unfolding mayStore
 may-store k c v x e w i h l = (yes-every _ (le-leb _ _ (w .key), (le-leb _ _ (w .command), (i, tt))), h, l)

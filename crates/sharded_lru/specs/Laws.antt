@@ -1,5 +1,5 @@
 -- An arena around one of its shards: the shard's bytes hold its row, and where they become another fine row's, the arena becomes the image of the rows with
--- that one in its place. So every event that 01 lets through leaves an arena. Assumes nothing more than `Lent`.
+-- that one in its place. So every event that the causes let through leaves an arena. Assumes nothing more than `Lent`.
 use mathlib.Core.Path.{_≡_, refl, sym, ap, _∙_, subst}
 use Prim.Native.Nat.{ℕ, suc, _+_, _*_, _≤_, _<_}
 use native.Mathlib.Omega.{arith}

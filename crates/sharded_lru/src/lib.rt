@@ -25,7 +25,7 @@ ghost use Rattle.sharded_lru.specs.Placed.{placedAt, Within};
 pub enum Admitted {
     // The arena is an image under these settings.
     Admits(Settings),
-    // 01's number of the cause.
+    // The number of the cause.
     Refused(u64),
 }
 

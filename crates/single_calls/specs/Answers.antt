@@ -1,4 +1,4 @@
--- What the answers of this crate's functions stand for: 01's number and values for every case. Assumes nothing: these are definitions.
+-- What the answers of this crate's functions stand for: the cause's number and the values for every case. Assumes nothing: these are definitions.
 use mathlib.Core.Path.{_≡_}
 use Prim.Native.Nat.{ℕ, _+_, _-_, _≤_}
 use mathlib.Core.Bool.{cond}
@@ -29,7 +29,7 @@ countsOf s = record { hits = s .hit; misses = s .miss; invalidates = s .invalida
 abbrev pub holding : Bytes → Counts → ℕ → Held
 holding s c n = record { arena = s; counts = c; next = n }
 
--- 01's number of a store's or an invalidation's answer
+-- the cause's number in a store's or an invalidation's answer
 abbrev pub answerNumber : Answered → ℕ
 answerNumber Done = noCause
 answerNumber (Refused n) = n
@@ -44,7 +44,7 @@ pub record Left (d : Return) (s : Bytes) (r : Answered) : Type 0 where
   pub cause : answerNumber r ≡ d .cause
   pub arena : s ≡ d .held .arena
 
--- 01's number of a lookup's answer
+-- the cause's number in a lookup's answer
 abbrev pub foundNumber : Found → ℕ
 foundNumber (Hit from to) = noCause
 foundNumber Miss = noCause

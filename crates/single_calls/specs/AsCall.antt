@@ -31,7 +31,7 @@ use Rattle.single_calls.specs.Single.{noCause, Return, refusedAs, overlo
 unfoldable pub callOf : Keyed → Call
 callOf q = cond (overlong q) refused (cond (wrongBytes q) refused (single q))
 
--- 01's number of what the call on bytes comes to
+-- the cause's number in what the call on bytes comes to
 unfoldable pub outcomeNumber : Keyed → Outcome → ℕ
 outcomeNumber q noImage = badArena
 outcomeNumber q denied = cond (overlong q) tooLong badReply

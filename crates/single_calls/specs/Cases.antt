@@ -1,4 +1,4 @@
--- Setup at 01's borders, computed. Assumes nothing.
+-- Setup at the borders of cause 1, computed. Assumes nothing.
 use mathlib.Core.Path.{_≡_, refl}
 use Rattle.config.specs.Config.{checked, refused, settingsOf}
 use Rattle.single_calls.specs.declared.NewCache.the-variants.{Fresh, Refused}

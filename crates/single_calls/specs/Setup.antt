@@ -7,7 +7,7 @@ use Rattle.config.specs.declared.CheckedConfig.the-variants.{Fine, Refused as B
 use Rattle.single_calls.specs.declared.NewCache.{NewCache}
 use Rattle.single_calls.specs.declared.NewCache.the-variants.{Fresh, Refused}
 
--- "Setup takes epoch 0 and leaves 1 as the next number"; cause 1 is its only refusal
+-- rule B4: setup is the epoch 0, and 1 comes next; cause 1 is its only refusal
 abbrev pub setUp : CheckedConfig → NewCache
 setUp (Fine g) = Fresh 0 1
 setUp BadConfig = Refused badConfig

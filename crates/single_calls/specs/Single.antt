@@ -1,6 +1,6 @@
--- A single call: document 01's "Single lookup, store and invalidate are `ShardedLRU::get`, `insert` and `invalidate`", from the settings, the arguments
--- and what the caller holds to 01's number, the value served and what the caller holds then. 01's sentences are quoted above the definitions that say them.
--- Assumes nothing: these are definitions.
+-- A single call, that is, one lookup, store or invalidation (`get`, `insert` and `invalidate` of the Rust's `ShardedLRU`), from the settings, the arguments and
+-- what the caller holds to the cause's number, the value served and what the caller holds then. Rules are docs/BEHAVIOUR.md's. Assumes nothing: these are
+-- definitions.
 use Prim.Native.Nat.{ℕ}
 use mathlib.Core.Bool.{Bool, false, cond, not, _||_}
 use mathlib.Core.Option.{Option, none, some}
@@ -25,18 +25,18 @@ noCause = 0
 
 -- what a single call returns and leaves
 pub record Return : Type 0 where
-  -- 01's number of the cause that refuses it
+  -- the number of the cause that refuses it, or 0
   pub cause : ℕ
-  -- "its value for the command, if any, is served"
+  -- what a lookup that hits is served (rule B6)
   pub value : Option Bytes
   -- arena, counts and next number
   pub held : Held
 
--- "Returned: number", "Left as it was: all"
+-- a refusal leaves everything as it was (rule G5)
 abbrev pub refusedAs : ℕ → Held → Return
 refusedAs n h = record { cause = n; value = none; held = h }
 
--- cause 3: "single call: key over 65,535, command or value over 16 MiB", of so many bytes each; a call without one of them is as one of no bytes
+-- cause 3 (C3), of so many bytes of key, command key and value; a call that has no command key or no value counts none for it
 abbrev pub overlongBy : ℕ → ℕ → ℕ → Bool
 overlongBy key command value = ltb maxKey key || ltb maxBytes command || ltb maxBytes value
 
@@ -45,7 +45,7 @@ overlong (lookup k c t e) = overlongBy (length k) (length c) 0
 overlong (store k c v x e) = overlongBy (length k) (length c) (length v)
 overlong (invalidate k) = overlongBy (length k) 0 0
 
--- cause 6: "singly stored bytes wrong"; "a value given to a single store [is] exactly one value with nothing after it, at most 16 MiB"
+-- cause 6 (C6): what is to be stored is not one value by rule V7
 unfoldable pub wrongBytes : Keyed → Bool
 wrongBytes (lookup k c t e) = false
 wrongBytes (store k c v x e) = not (isValue v)
@@ -78,7 +78,7 @@ calledOn p rows q h =
       held = lend p (length (h .arena)) (afterCall p (single q) (bookOf rows h));
     }
 
--- "Checks run: 1; then 9 (not in setup); then .. in a single call 3, 6, 11."
+-- the causes in the order of rule C12: 1, 9, 3, 6, and 11 from the book's store
 unfoldable pub imaged : Setup → Option (ℕ → Row) → Keyed → Held → Return
 imaged p none q h = refusedAs badArena h
 imaged p (some rows) q h =

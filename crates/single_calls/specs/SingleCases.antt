@@ -1,4 +1,4 @@
--- Single calls at work on a cache of one key, computed: 01's cases, the order of the causes, and what is left. They lean on the definitions alone, with
+-- Single calls at work on a cache of one key, computed: cases of the joint table, the order of the causes, and what is left. They lean on the definitions alone, with
 -- SipHash and RESP3 as they are. Assumes nothing.
 use mathlib.Core.Path.{_≡_, refl}
 use Prim.Native.Nat.{ℕ}
@@ -90,7 +90,7 @@ pub invalidated : call (invalidate (ascii "abc")) (call storing (freshIn 80) .he
 unfolding single-defs
 invalidated = refl
 
--- ---- "Checks run: 1; then 9 ..; then .. in a single call 3, 6, 11."
+-- ---- Each cause against the next, in the order of rule C12
 
 -- a mode of 2 is 1 before 9, whatever is asked
 pub one-first : (q : Keyed) → singleCall 1 2 0 q spoilt .cause ≡ 1

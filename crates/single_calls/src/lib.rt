@@ -1,4 +1,4 @@
-// The cache's single calls on a lent arena: setup, lookup, store and invalidate. Nothing is asked of the caller: what is wrong is refused by 01's numbers.
+// The cache's single calls on a lent arena: setup, lookup, store and invalidate. Nothing is asked of the caller: what is wrong is refused by a cause's number.
 // After `CacheManager::new` and `ShardedLRU::get`, `insert` and `invalidate`. specs/Single.antt says what each returns and leaves.
 use command_key::CommandKey;
 use config::CheckedConfig;
@@ -26,7 +26,7 @@ pub const NO_CAUSE: u64 = 0;
 pub enum NewCache {
     // A fresh cache: the epoch that it takes, and the next epoch number.
     Fresh(u64, u64),
-    // 01's number of the cause; the arena is left as it was.
+    // The number of the cause; the arena is left as it was.
     Refused(u64),
 }
 
@@ -48,7 +48,7 @@ pub fn setup(arena: &mut [u8], size: u64, mode: u64, ttl: u64) -> NewCache
 // What a store or an invalidation comes to.
 pub enum Answered {
     Done,
-    // 01's number of the cause; everything is left as it was.
+    // The number of the cause; everything is left as it was.
     Refused(u64),
 }
 
@@ -57,7 +57,7 @@ pub enum Found {
     // The value: the arena's bytes from `from` up to `to`, as the lookup leaves them.
     Hit { from: usize, to: usize },
     Miss,
-    // 01's number of the cause; everything is left as it was.
+    // The number of the cause; everything is left as it was.
     Denied(u64),
 }
 

@@ -7,7 +7,7 @@ use Rattle.cache_manager.specs.Cases.{call-case-defs, recordOf, getA, sentA}
 use Rattle.trap_send.specs.Send.{output, sendsWith}
 use Rattle.trap_send.specs.declared.Sent.the-variants.{Front, Nothing}
 
--- 01's case: 41 bytes, and the end of a longer buffer unchanged; the plan takes 33
+-- the joint table's case: 41 bytes, and the end of a longer buffer unchanged; the plan takes 33
 pub get-a : sendsWith (recordOf 0 1 (getA 0 0)) (replicate 43 8) (replicate 33 9) ≡ output (Front 41) (sentA ++ (8 ∷ 8 ∷ []))
 unfolding call-case-defs sendsWith
 get-a = refl

@@ -158,7 +158,7 @@ module _ (s f : Bytes) (a : Bytes) (g : Settings) (rows : ℕ → Row) (n : Coun
 
 -- ---- the whole
 
--- "an empty cache": what setup leaves of 64 bytes, whatever they were
+-- the empty cache: what setup leaves of 64 bytes, whatever they were
 pub empty-set-up : (a : Bytes) → length a ≡ 64 → freshArena (checked 4 0 1800000 (length a)) a ≡ emptyCache .arena
 unfolding checked refused settingsOf
 empty-set-up a l = ap (λ (n : ℕ). freshArena (checked 4 0 1800000 n) a) l ∙ ap (λ (n : ℕ). replicate {A = ℕ} n 0) l

@@ -1,4 +1,4 @@
--- What 01's program writes: planning's own call on an empty cache, with a plan buffer that has room (docs/BEHAVIOUR.md, T1).
+-- What the program writes: planning's own call on an empty cache, with a plan buffer that has room (docs/BEHAVIOUR.md, T1).
 -- Assumes nothing: these are definitions.
 -- Letters: s the call record's bytes, d a plan buffer's, f the send buffer's, r what is answered.
 use mathlib.Core.Path.{_≡_}

@@ -1,4 +1,4 @@
-//! RESP3 values: `$ + - : _ , # ! = ( * % ~ | >`, no streamed forms, no RESP2 nulls.
+//! RESP3 values: the fifteen kinds of rule V1 of docs/BEHAVIOUR.md, nothing streamed, no RESP2 nulls.
 //!
 //! Lengths and integers are canonical, so a value has exactly one spelling and writing what was read gives the same bytes.
 

@@ -71,8 +71,8 @@ impl Book {
         served
     }
 
-    /// Store: the key's item under this epoch gets value and expiry where it stands; otherwise it goes, or with none a full
-    /// shard's oldest, and a new item is newest. Cause 11 where the row would then take more bytes than the shard has.
+    /// Store (rules B7 to B9 of docs/BEHAVIOUR.md): an item of this epoch is changed in its place; one of another epoch, or
+    /// the oldest of a full shard, makes way for a new item in front. Cause 11 where the row then takes too many bytes.
     pub fn store(
         &mut self,
         epoch: u64,

@@ -6,7 +6,7 @@ use calls::{Answer, At, Call, Counts, Setup};
 /// The most bytes of record and output.
 const MOST_BYTES: usize = 65_536;
 
-/// What the program writes for a record on its standard input: size 4, mode All, clock 0, default TTL 1,800,000; nothing on
+/// What the program writes for a record on its standard input: rule T1 of docs/BEHAVIOUR.md; nothing on
 /// a refusal, or where record or output is longer than 65,536 bytes.
 pub fn output(record: &[u8]) -> Vec<u8> {
     let default_ttl = 1_800_000;

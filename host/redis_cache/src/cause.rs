@@ -13,7 +13,8 @@ use std::fmt;
 #[derive(Clone, Copy, Debug, PartialEq, Eq)]
 #[repr(u8)]
 pub enum Cause {
-    /// Size not 1 to 65,536; mode over 1; arena over 2^31 or under 64 bytes a shard.
+    /// The size is not from 1 to 65,536, the mode neither 0 nor 1, or the arena longer than 2^31 bytes or shorter than 64
+    /// for each shard.
     BadConfig = 1,
     /// The call record is wrong.
     BadRecord,

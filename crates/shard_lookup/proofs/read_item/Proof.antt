@@ -1,4 +1,4 @@
--- `read_item` meets its contract: 01's tests in their order, then the command key's entry. Assumes nothing.
+-- `read_item` meets its contract: the tests of rule B5 in their order, then the command key's entry. Assumes nothing.
 use mathlib.Core.Path.{sym, _∙_}
 use native.Mathlib.Omega.{arith}
 use Rattle.command_key.specs.Key.{keyBytes}

@@ -1,5 +1,5 @@
-//! Values, conversions and arguments. The conversions are document 01's: a list only from an array, a transaction's list
-//! only from an array of one array, a PTTL only from an integer, a key only from a blob string.
+//! Values, conversions and arguments. The conversions are those of rules S1 and V9 of docs/BEHAVIOUR.md, narrower than the
+//! crate's own: arrays become lists, integers PTTLs and blobs keys, and nothing else does.
 
 use super::errors::{ParsingError, RedisError, ServerError};
 use calls::resp;
