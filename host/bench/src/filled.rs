@@ -6,7 +6,7 @@ use calls::{Arg, At, Command, Counts, Entry, Item, Record, Setup, Value, record,
 use model::{config, layout, siphash};
 use redis_cache::lent::{self, Looked, MODE_ALL, Now, Settings};
 use reference::{Asked, Reference, Replies};
-use std::cell::RefCell;
+use std::cell::{OnceCell, RefCell};
 use std::hint::black_box;
 
 /// Keys of a cache of many shards: as many as there may be, so that the arena's length is what bounds it.
@@ -186,7 +186,7 @@ impl Filled {
         let Buffers { mut answer, .. } = call.buffers();
         readied(move || {
             self.arena.borrow_mut().copy_from_slice(&self.fresh);
-            let (plan, replies) = (&call.plan, &call.replies);
+            let (plan, replies) = (call.plan(), &call.replies);
             clock::of(|| {
                 self.lent(|mut cache| {
                     let resolved = cache.resolve(NOW, black_box(plan), replies, &mut answer);
@@ -305,12 +305,12 @@ impl Crate {
     }
 }
 
-/// Commands, as both are given them, with a plan of ours in which all of them are missing, and the replies.
+/// Commands, as both are given them, and the replies where all of them are missing.
 pub struct Call {
     pub keys: Vec<Vec<u8>>,
     bytes: Vec<u8>,
     asked: Asked,
-    plan: Vec<u8>,
+    plan: OnceCell<Vec<u8>>,
     replies: Vec<u8>,
     read: Replies,
 }
@@ -359,24 +359,29 @@ impl Call {
             commands,
         };
         let replies = Value::Array(replies);
-        let mut call = Call {
+        Call {
             keys,
             bytes: record::encode(&record),
             asked: Asked::new(&record),
-            plan: Vec::new(),
+            plan: OnceCell::new(),
             replies: resp::encode(&replies),
             read: Replies::new(replies),
-        };
-        let empty = Filled::of(SIZE, 64 << 10, vec![Vec::new(); 32]);
-        let Buffers {
-            mut plan, mut send, ..
-        } = call.buffers();
-        let mut counts = lent::Counts::default();
-        call.plan = empty.lent(|mut cache| {
-            let planned = cache.plan(NOW, &call.bytes, &mut counts, &mut plan, &mut send);
-            planned.expect("a plan").plan.to_vec()
-        });
-        call
+        }
+    }
+
+    /// A plan in which all commands are missing.
+    fn plan(&self) -> &[u8] {
+        self.plan.get_or_init(|| {
+            let empty = Filled::of(SIZE, 64 << 10, vec![Vec::new(); 32]);
+            let Buffers {
+                mut plan, mut send, ..
+            } = self.buffers();
+            let mut counts = lent::Counts::default();
+            empty.lent(|mut cache| {
+                let planned = cache.plan(NOW, &self.bytes, &mut counts, &mut plan, &mut send);
+                planned.expect("a plan").plan.to_vec()
+            })
+        })
     }
 
     /// Buffers in which everything of this call has space.

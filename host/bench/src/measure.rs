@@ -4,8 +4,12 @@
 use crate::clock;
 use std::hint::black_box;
 
-/// Rounds of each measurement.
+/// Rounds of each measurement, and the fewest where they take long.
 const ROUNDS: usize = 31;
+const FEWEST: usize = 7;
+
+/// How long all rounds of a measurement may take, in ns, as long as there are not fewer than the fewest.
+const MOST: f64 = 600_000_000.0;
 
 /// How long one side of a round takes at least, in ns.
 const LEAST: f64 = 1_000_000.0;
@@ -132,6 +136,11 @@ impl Table {
         }
     }
 
+    /// Whether it is times that are asked for.
+    pub fn times(&self) -> bool {
+        self.once.is_none()
+    }
+
     /// Whether cases of this group are asked for.
     pub fn wants(&self, group: &str) -> bool {
         self.wanted.is_empty() || self.wanted.iter().any(|(wanted, _)| wanted == group)
@@ -176,16 +185,14 @@ impl Table {
         }
         let times = repetitions(&mut ours);
         let other_times: Vec<usize> = others.iter_mut().map(|(_, way)| repetitions(way)).collect();
-        let rounds: Vec<(f64, Vec<f64>)> = (0..ROUNDS)
-            .map(|_| {
-                let mine = timed(&mut ours, times);
-                let each = others.iter_mut().zip(&other_times);
-                (
-                    mine,
-                    each.map(|((_, way), &times)| timed(way, times)).collect(),
-                )
-            })
-            .collect();
+        let mut rounds: Vec<(f64, Vec<f64>)> = Vec::new();
+        let began = clock::ran();
+        while rounds.len() < ROUNDS && (rounds.len() < FEWEST || clock::ran() - began < MOST) {
+            let mine = timed(&mut ours, times);
+            let each = others.iter_mut().zip(&other_times);
+            let each = each.map(|((_, way), &times)| timed(way, times));
+            rounds.push((mine, each.collect()));
+        }
         let names: Vec<&'static str> = others.iter().map(|(name, _)| *name).collect();
         let compared = names.iter().enumerate();
         compared
@@ -206,7 +213,8 @@ impl Table {
             .map(|(ours, others)| ours / others[place])
             .collect();
         ratios.sort_by(f64::total_cmp);
-        let ratio = [ROUNDS / 10, ROUNDS / 2, ROUNDS - 1 - ROUNDS / 10].map(|at| ratios[at]);
+        let (last, tenth) = (ratios.len() - 1, ratios.len() / 10);
+        let ratio = [tenth, ratios.len() / 2, last - tenth].map(|at| ratios[at]);
         let row = Row {
             group: case.group,
             case: case.words.clone(),
@@ -267,9 +275,11 @@ fn repetitions(way: &mut Way<'_>) -> usize {
     }
 }
 
-/// The time of one repetition in ns, or of one of the things that it does. One that is not timed comes before, so that all ways are warm.
+/// The time of one repetition in ns, or of one of the things that it does. Where few are timed, one that is not comes before, so that all ways are warm.
 fn timed(way: &mut Way<'_>, times: usize) -> f64 {
-    way.timed(1);
+    if times < 8 {
+        way.timed(1);
+    }
     way.timed(times) / way.things as f64
 }
 

@@ -53,7 +53,9 @@ pub fn planning(table: &mut Table) {
 }
 
 fn plan(table: &mut Table, filled: &Filled, words: String, call: &Call) {
-    filled.agree(call);
+    if table.times() {
+        filled.agree(call);
+    }
     let others = vec![
         ("one pass", filled.pass()),
         ("redis 1.8.1", filled.crate_plannings(call)),
