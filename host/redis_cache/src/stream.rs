@@ -4,7 +4,7 @@ mod tracking;
 
 pub use tracking::tracking_on;
 
-use crate::frame::{End, value_end};
+use crate::lent::{ValueEnd, value_end};
 use crate::{
     Cache, Call, Cause, Error, OwnedAnswer, OwnedValue, Plan, Replies, ServerError, Value,
 };
@@ -139,6 +139,8 @@ pub struct Stream {
     auth: Option<(String, String)>,
     /// Received, and not yet a whole value.
     incoming: Vec<u8>,
+    /// How long it is to be before it is read again: as long as a value can be whole, or twice as long as it was.
+    needed: usize,
     outgoing: Vec<u8>,
     /// How many responses to `HELLO` and `CLIENT TRACKING` are still to come.
     greetings: usize,
@@ -193,6 +195,7 @@ impl Stream {
             cache,
             auth,
             incoming: Vec::new(),
+            needed: 0,
             outgoing: Vec::new(),
             greetings: 0,
             open: VecDeque::new(),
@@ -304,17 +307,25 @@ impl Stream {
         if self.lost {
             return;
         }
+        self.incoming.extend_from_slice(bytes);
+        // A long list that comes in small pieces is not read again for each of them.
+        if self.incoming.len() < self.needed {
+            return;
+        }
         let mut incoming = std::mem::take(&mut self.incoming);
-        incoming.extend_from_slice(bytes);
         let mut at = 0;
         while !self.lost {
             match value_end(&incoming[at..]) {
-                End::Complete(length) => {
+                ValueEnd::Complete(length) => {
                     self.value(clock, &incoming[at..at + length]);
                     at += length;
                 }
-                End::More => break,
-                End::Wrong => self.lose(Lost::Refused(Error::of(Cause::BadReply))),
+                ValueEnd::More(lacking) => {
+                    let rest = incoming.len() - at;
+                    self.needed = (rest + lacking).min(2 * rest);
+                    break;
+                }
+                ValueEnd::Wrong => self.lose(Lost::Refused(Error::of(Cause::BadReply))),
             }
         }
         if !self.lost {
@@ -351,6 +362,7 @@ impl Stream {
     pub fn disconnected(&mut self) {
         self.lost = true;
         self.incoming.clear();
+        self.needed = 0;
         self.outgoing.clear();
         self.between.clear();
         self.greetings = 0;
