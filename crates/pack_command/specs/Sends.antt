@@ -19,6 +19,8 @@ use Rattle.cursor.specs.declared.Head.{Head}
 use Rattle.cursor.specs.declared.Range.{Range}
 use Rattle.call_record.specs.Record.{Command}
 use Rattle.cmd.specs.Pack.{texts, packed, pttlTexts, cachingTexts, head, blob, blobBytes, packed-pieces}
+use Rattle.cmd.specs.Laws.{Wrote}
+use Rattle.plan_write.specs.Wrote.{wrote-long}
 use Rattle.book.specs.Book.{Row, Setup}
 use Rattle.book.specs.Calls.{Wanted}
 use Rattle.planning.specs.Small.{parts-count}
@@ -37,9 +39,11 @@ use Rattle.cached_cmd.specs.declared.PrepCacheItem.{PrepCacheItem}
 use Rattle.cached_cmd.specs.declared.PrepCacheItem.the-variants.{Cached, NotCached, NotCacheable}
 use Rattle.cached_cmd.specs.declared.CachingResult.{CachingResult}
 use Rattle.cached_cmd.specs.declared.CachingResult.the-variants.{Item, Ignored}
+use Rattle.pack_command.specs.declared.Half.{Half}
+use Rattle.pack_command.specs.declared.Half.the-variants.{Pttl, Own}
 use Rattle.several_keys.specs.Steps.{keys-few}
 use Rattle.several_keys.specs.Pieces.{pieces, keys-are, pttls-are, placesNow}
-use Rattle.several_keys.specs.declared.Piece.the-variants.{Key, Pttl}
+use Rattle.several_keys.specs.declared.Piece.the-variants.{Key, Pttl as KeyPttl}
 
 -- ---- commands one after the other
 
@@ -75,6 +79,49 @@ ownBytes s h = packed (texts (h .cursor) (argsOf s (h .args)))
 abbrev pub singleBytes : Bytes → Head → Range → Bytes
 singleBytes s h key = packed (pttlTexts (rangeBytes s key)) ++ ownBytes s h
 
+-- one of the two, and which is the other
+unfoldable pub halfBytes : Bytes → Head → Range → Half → Bytes
+halfBytes s h key Pttl = packed (pttlTexts (rangeBytes s key))
+halfBytes s h key Own = ownBytes s h
+
+unfoldable pub other : Half → Half
+other Pttl = Own
+other Own = Pttl
+
+module _ (s : Bytes) (h : Head) (key : Range) where
+  -- by which it is
+  pub half-pttl : (x : Half) → x ≡ Pttl → halfBytes s h key x ≡ packed (pttlTexts (rangeBytes s key))
+  unfolding halfBytes
+  half-pttl x q = rw q
+
+  pub half-own : (x : Half) → x ≡ Own → halfBytes s h key x ≡ ownBytes s h
+  unfolding halfBytes
+  half-own x q = rw q
+
+  -- `PTTL` first
+  pub both-halves : singleBytes s h key ≡ halfBytes s h key Pttl ++ halfBytes s h key Own
+  unfolding halfBytes
+  both-halves = refl
+
+  -- whichever comes first, the two are as long
+  half-lengths : (x : Half) → length (halfBytes s h key x) + length (halfBytes s h key (other x)) ≡ length (singleBytes s h key)
+  unfolding other
+  half-lengths Pttl = sym (ap length both-halves ∙ length-append (halfBytes s h key Pttl) (halfBytes s h key Own))
+  half-lengths Own = let l = ap length both-halves ∙ length-append (halfBytes s h key Pttl) (halfBytes s h key Own) in omega arith
+
+  -- so there is room for either, and behind it for the other
+  pub half-room : (x : Half) (to n : ℕ) → to + length (singleBytes s h key) ≤ n → to + length (halfBytes s h key x) ≤ n
+  half-room x to n r = let l = half-lengths x in omega arith
+
+  pub other-room : (x y : Half) (d d₁ : Bytes) (to e : ℕ) → other x ≡ y → to + length (singleBytes s h key) ≤ length d → Wrote d to (halfBytes s h key x) d₁ e
+      → e + length (halfBytes s h key y) ≤ length d₁
+  other-room x y d d₁ to e q r w =
+      let l = half-lengths x in
+      let m = ap (λ (z : Half). length (halfBytes s h key z)) q in
+      let k = wrote-long d d₁ (halfBytes s h key x) to e (half-room x to (length d) r) w in
+      let f = w .ends in
+      omega arith
+
 -- how many arguments: the name, n keys, and a path for JSON
 abbrev pub argumentCount : Bool → ℕ → ℕ
 argumentCount json n = n + cond json 2 1
@@ -89,7 +136,7 @@ getBytes g rows t e s v n = getName (v .json) n ++ (pieces Key (placesNow g rows
 
 -- and then a `PTTL` for each
 abbrev pub severalBytes : Settings → (ℕ → Row) → ℕ → ℕ → Bytes → Several → ℕ → Bytes
-severalBytes g rows t e s v n = getBytes g rows t e s v n ++ pieces Pttl (placesNow g rows t e s v)
+severalBytes g rows t e s v n = getBytes g rows t e s v n ++ pieces KeyPttl (placesNow g rows t e s v)
 
 -- the same of n keys ks: the name with them and the path, and then a `PTTL` for each
 abbrev pub severalWith : Bytes → Several → ℕ → List Bytes → Bytes
