@@ -6,11 +6,9 @@ use Rattle.caching.proofs.comes_to.Reads as reads
 use Rattle.caching.proofs.comes_to.Lts as lts
 use Rattle.caching.proofs.answer_number.Reads as answer-number-reads
 
--- src/lib.rt:106:16
 answer-number-requires : tie.Need-answer-number-requires
 answer-number-requires c κs = search needs
 
--- src/lib.rt:100:1
 returns : tie.Need-returns
 returns c = rw (c .answer-number .ensures)
 

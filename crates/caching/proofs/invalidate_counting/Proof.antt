@@ -13,23 +13,18 @@ use Rattle.caching.proofs.comes_to.Reads as comes-to-reads
 use Rattle.caching.proofs.none_yet.Reads as none-yet-reads
 use Rattle.single_calls.proofs.invalidate.Reads as invalidate-reads
 
--- src/lib.rt:167:68
 none-yet-requires : tie.Need-none-yet-requires
 none-yet-requires c κs = search needs
 
--- src/lib.rt:167:14
 invalidate-requires : tie.Need-invalidate-requires
 invalidate-requires c κs = search needs
 
--- src/lib.rt:167:5
 comes-to-requires : tie.Need-comes-to-requires
 comes-to-requires c κs = search needs
 
--- src/lib.rt:158:1
 same-length : tie.Need-same-length
 same-length c = search needs
 
--- src/lib.rt:158:1
 returns : tie.Need-returns
 returns c =
     let a = c .before .before .before .before .before .before .before .before .args in

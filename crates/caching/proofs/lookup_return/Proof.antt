@@ -7,27 +7,21 @@ use Rattle.caching.proofs.lookup_return.Tie as tie
 use Rattle.caching.proofs.lookup_return.Reads as reads
 use Rattle.caching.proofs.lookup_return.Lts as lts
 
--- src/lib.rt:66:42
 enum-told : tie.Need-enum-told
 enum-told c = search needs
 
--- src/lib.rt:70:24
 enum-told-2 : tie.Need-enum-told-2
 enum-told-2 c = search needs
 
--- src/lib.rt:74:23
 enum-known-found : tie.Need-enum-known-found
 enum-known-found c = search needs
 
--- src/lib.rt:62:1
 returns : tie.Need-returns
 returns c = sym (ap lookupReturn (c .enum-told .given .1))
 
--- src/lib.rt:62:1
 returns-2 : tie.Need-returns-2
 returns-2 c = sym (ap lookupReturn (c .enum-told2 .given .1))
 
--- src/lib.rt:62:1
 returns-3 : tie.Need-returns-3
 returns-3 c = sym (ap lookupReturn (c .before .found .given .1))
 

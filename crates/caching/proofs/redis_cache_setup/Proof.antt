@@ -9,19 +9,15 @@ use Rattle.caching.proofs.redis_cache_setup.Lts as lts
 use Rattle.caching.proofs.setup_return.Reads as setup-return-reads
 use Rattle.single_calls.proofs.setup.Reads as setup-reads
 
--- src/lib.rt:117:18
 setup-requires : tie.Need-setup-requires
 setup-requires c κs = search needs
 
--- src/lib.rt:117:5
 setup-return-requires : tie.Need-setup-return-requires
 setup-return-requires c κs = search needs
 
--- src/lib.rt:112:1
 same-length : tie.Need-same-length
 same-length c = search needs
 
--- src/lib.rt:112:1
 returns : tie.Need-returns
 returns c = (c .setup-return .ensures ∙ ap setupReturn (c .before .before .before .setup .ensures .0), c .before .before .before .setup .ensures .1)
 

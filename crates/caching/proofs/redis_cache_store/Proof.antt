@@ -8,19 +8,15 @@ use Rattle.caching.proofs.redis_cache_store.Lts as lts
 use Rattle.caching.proofs.answer_number.Reads as answer-number-reads
 use Rattle.single_calls.proofs.store.Reads as store-reads
 
--- src/lib.rt:136:19
 store-requires : tie.Need-store-requires
 store-requires c κs = search needs
 
--- src/lib.rt:136:5
 answer-number-requires : tie.Need-answer-number-requires
 answer-number-requires c κs = search needs
 
--- src/lib.rt:121:1
 same-length : tie.Need-same-length
 same-length c = search needs
 
--- src/lib.rt:121:1
 returns : tie.Need-returns
 returns c =
     (λ lent next. c .answer-number .ensures ∙ c .before .before .before .store .ensures lent next .cause, λ lent next. c .before .before .before .store .ensures lent next .arena)

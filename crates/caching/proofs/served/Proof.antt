@@ -11,11 +11,9 @@ use Rattle.caching.proofs.served.Tie as tie
 use Rattle.caching.proofs.served.Reads as reads
 use Rattle.caching.proofs.served.Lts as lts
 
--- src/lib.rt:105:22
 enum-known-found : tie.Need-enum-known-found
 enum-known-found c = search needs
 
--- src/lib.rt:105:36
 -- what the `requires` says in the arm that has two places
 in-arm : (c : tie.After-found) → FoundIn (length (now (c .before .before .args .arena))) (Hit (c .found .given .0 .0) (c .found .given .0 .1 .0))
 in-arm c = subst (FoundIn (length (now (c .before .before .args .arena)))) (c .found .given .1) (c .before .before .pre)
@@ -23,56 +21,43 @@ in-arm c = subst (FoundIn (length (now (c .before .before .args .arena)))) (c .f
 sub-result : tie.Need-sub-result
 sub-result c = in-arm (c .before) .0
 
--- src/lib.rt:105:36
 part-result-start : tie.Need-part-result-start
 part-result-start c = in-arm (c .before) .0
 
--- src/lib.rt:105:36
 part-result-end : tie.Need-part-result-end
 part-result-end c = in-arm (c .before) .1
 
--- src/lib.rt:106:24
 enum-told : tie.Need-enum-told
 enum-told c = search needs
 
--- src/lib.rt:106:24
 sub-result-2 : tie.Need-sub-result-2
 sub-result-2 c = search needs
 
--- src/lib.rt:106:24
 part-result-start-2 : tie.Need-part-result-start-2
 part-result-start-2 c = search needs
 
--- src/lib.rt:106:24
 part-result-end-2 : tie.Need-part-result-end-2
 part-result-end-2 c = search needs
 
--- src/lib.rt:107:29
 enum-told-2 : tie.Need-enum-told-2
 enum-told-2 c = search needs
 
--- src/lib.rt:107:29
 sub-result-3 : tie.Need-sub-result-3
 sub-result-3 c = search needs
 
--- src/lib.rt:107:29
 part-result-start-3 : tie.Need-part-result-start-3
 part-result-start-3 c = search needs
 
--- src/lib.rt:107:29
 part-result-end-3 : tie.Need-part-result-end-3
 part-result-end-3 c = search needs
 
--- src/lib.rt:99:1
 returns : tie.Need-returns
 unfolding part
 returns c = rw (c .before .before .found .given .1) (refl, (refl, refl))
 
--- src/lib.rt:99:1
 returns-2 : tie.Need-returns-2
 returns-2 c = rw (c .before .enum-told .given .1) (refl, (refl, refl))
 
--- src/lib.rt:99:1
 returns-3 : tie.Need-returns-3
 returns-3 c = rw (c .before .enum-told2 .given .1) (refl, (refl, refl))
 

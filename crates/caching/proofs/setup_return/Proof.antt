@@ -7,19 +7,15 @@ use Rattle.caching.proofs.setup_return.Tie as tie
 use Rattle.caching.proofs.setup_return.Reads as reads
 use Rattle.caching.proofs.setup_return.Lts as lts
 
--- src/lib.rt:39:25
 enum-known-cache : tie.Need-enum-known-cache
 enum-known-cache c = search needs
 
--- src/lib.rt:44:27
 enum-known-cache-2 : tie.Need-enum-known-cache-2
 enum-known-cache-2 c = search needs
 
--- src/lib.rt:35:1
 returns : tie.Need-returns
 returns c = sym (ap setupReturn (c .before .cache .given .1))
 
--- src/lib.rt:35:1
 returns-2 : tie.Need-returns-2
 returns-2 c = sym (ap setupReturn (c .before .cache2 .given .1))
 

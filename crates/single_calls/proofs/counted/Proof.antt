@@ -8,27 +8,21 @@ use Rattle.single_calls.proofs.counted.Reads as reads
 use Rattle.single_calls.proofs.counted.Lts as lts
 use Rattle.single_calls.proofs.more.Reads as more-reads
 
--- src/lib.rt:100:23
 enum-known-found : tie.Need-enum-known-found
 enum-known-found c = search needs
 
--- src/lib.rt:102:21
 more-requires : tie.Need-more-requires
 more-requires c κs = search needs
 
--- src/lib.rt:104:22
 enum-known-found-2 : tie.Need-enum-known-found-2
 enum-known-found-2 c = search needs
 
--- src/lib.rt:106:21
 more-requires-2 : tie.Need-more-requires-2
 more-requires-2 c κs = search needs
 
--- src/lib.rt:96:1
 returns : tie.Need-returns
 returns c = rw (c .more .ensures) (sym (ap (lookedUp (c .before .before .before .before .args .counts)) (c .before .before .found .given .1)))
 
--- src/lib.rt:96:1
 returns-2 : tie.Need-returns-2
 returns-2 c = rw (c .more2 .ensures) (sym (ap (lookedUp (c .before .before .before .before .args .counts)) (c .before .before .found2 .given .1)))
 

@@ -11,37 +11,29 @@ use Rattle.single_calls.proofs.invalidate.Lts as lts
 use Rattle.sharded_lru.proofs.admit.Reads as admit-reads
 use Rattle.single_calls.proofs.invalidate_admitted.Reads as invalidate-admitted-reads
 
--- src/lib.rt:210:11
 admit-requires : tie.Need-admit-requires
 admit-requires c κs = search needs
 
--- src/lib.rt:211:27
 enum-known-n : tie.Need-enum-known-n
 enum-known-n c = search needs
 
--- src/lib.rt:215:26
 enum-known-g : tie.Need-enum-known-g
 enum-known-g c = search needs
 
--- src/lib.rt:215:32
 invalidate-admitted-requires : tie.Need-invalidate-admitted-requires
 invalidate-admitted-requires c κs = enter _ _ _ _ _ (sym (c .before .before .before .before .admit .ensures) ∙ c .before .before .g .given .1)
 
--- src/lib.rt:207:1
 same-length : tie.Need-same-length
 same-length c = search needs
 
--- src/lib.rt:207:1
 returns : tie.Need-returns
 returns c next =
     let e = sym (c .before .before .before .admit .ensures) ∙ c .before .n .given .1 in
     invalidation-refused _ _ (not-admitted-cause _ _ _ _ _ e) _ _ _ (not-admitted _ _ _ _ _ _ _ next e)
 
--- src/lib.rt:207:1
 same-length-2 : tie.Need-same-length-2
 same-length-2 c = search needs
 
--- src/lib.rt:207:1
 returns-2 : tie.Need-returns-2
 returns-2 c next =
     let w = admits _ _ _ _ _ (sym (c .before .before .before .before .before .before .before .admit .ensures) ∙ c .before .before .before .before .before .g .given .1) in

@@ -12,28 +12,22 @@ use Rattle.sharded_lru.proofs.invalidate.Reads as invalidate-reads
 use Rattle.single_calls.proofs.more.Reads as more-reads
 use Rattle.single_calls.proofs.too_long.Reads as too-long-reads
 
--- src/lib.rt:209:8
 too-long-requires : tie.Need-too-long-requires
 too-long-requires c κs = search needs
 
--- src/lib.rt:210:9
 returns : tie.Need-returns
 unfolding overlong
 returns c rows next w = invalidation-refused _ _ refl _ _ _ (too-long _ rows _ _ (sym (c .before .too-long .ensures) ∙ c .if1 .taken))
 
--- src/lib.rt:215:9
 invalidate-requires : tie.Need-invalidate-requires
 invalidate-requires c κs = search needs
 
--- src/lib.rt:218:17
 more-requires : tie.Need-more-requires
 more-requires c κs = search needs
 
--- src/lib.rt:205:1
 same-length : tie.Need-same-length
 same-length c = search needs
 
--- src/lib.rt:205:1
 returns-2 : tie.Need-returns-2
 unfolding overlong wrongBytes effectOn
 returns-2 c rows next w =

@@ -11,38 +11,30 @@ use Rattle.single_calls.proofs.lookup.Lts as lts
 use Rattle.sharded_lru.proofs.admit.Reads as admit-reads
 use Rattle.single_calls.proofs.lookup_admitted.Reads as lookup-admitted-reads
 
--- src/lib.rt:134:11
 admit-requires : tie.Need-admit-requires
 admit-requires c κs = search needs
 
--- src/lib.rt:135:27
 enum-known-n : tie.Need-enum-known-n
 enum-known-n c = search needs
 
--- src/lib.rt:139:26
 enum-known-g : tie.Need-enum-known-g
 enum-known-g c = search needs
 
--- src/lib.rt:139:32
 lookup-admitted-requires : tie.Need-lookup-admitted-requires
 lookup-admitted-requires c κs = enter _ _ _ _ _ (sym (c .before .before .before .before .admit .ensures) ∙ c .before .before .g .given .1)
 
--- src/lib.rt:121:1
 same-length : tie.Need-same-length
 same-length c = search needs
 
--- src/lib.rt:121:1
 returns : tie.Need-returns
 returns c next =
     let e = sym (c .before .before .before .admit .ensures) ∙ c .before .n .given .1 in
     let r = not-admitted _ _ _ _ _ _ _ next e in
     lookup-refused _ _ (not-admitted-cause _ _ _ _ _ e) _ _ _ _ r (no-place _ _ _ _ _ _ _ _ _ _ r)
 
--- src/lib.rt:121:1
 same-length-2 : tie.Need-same-length-2
 same-length-2 c = search needs
 
--- src/lib.rt:121:1
 returns-2 : tie.Need-returns-2
 returns-2 c next =
     let w = admits _ _ _ _ _ (sym (c .before .before .before .before .before .before .before .admit .ensures) ∙ c .before .before .before .before .before .g .given .1) in

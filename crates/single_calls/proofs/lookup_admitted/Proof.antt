@@ -12,30 +12,24 @@ use Rattle.sharded_lru.proofs.get.Reads as get-reads
 use Rattle.single_calls.proofs.counted.Reads as counted-reads
 use Rattle.single_calls.proofs.too_long.Reads as too-long-reads
 
--- src/lib.rt:109:8
 too-long-requires : tie.Need-too-long-requires
 too-long-requires c κs = search needs
 
--- src/lib.rt:110:9
 returns : tie.Need-returns
 unfolding overlong
 returns c rows next w =
     let r = too-long _ rows _ _ (sym (c .before .too-long .ensures) ∙ c .if1 .taken) in
     lookup-refused _ _ refl _ _ _ _ r (no-place-left _ _ _ _ _ _ r)
 
--- src/lib.rt:116:9
 get-requires : tie.Need-get-requires
 get-requires c κs = (c .before .before .before .before .before .before .pre, whole-in _)
 
--- src/lib.rt:117:5
 counted-requires : tie.Need-counted-requires
 counted-requires c κs = search needs
 
--- src/lib.rt:96:1
 same-length : tie.Need-same-length
 same-length c = search needs
 
--- src/lib.rt:96:1
 returns-2 : tie.Need-returns-2
 unfolding overlong wrongBytes
 returns-2 c rows next w =

@@ -8,19 +8,15 @@ use Rattle.statistics.proofs.Statistics.increase_hit.Reads as increase-hit-read
 use Rattle.statistics.proofs.Statistics.increase_invalidate.Reads as increase-invalidate-reads
 use Rattle.statistics.proofs.Statistics.increase_miss.Reads as increase-miss-reads
 
--- src/lib.rt:89:5
 increase-hit-requires : tie.Need-increase-hit-requires
 increase-hit-requires c κs = search needs
 
--- src/lib.rt:89:5
 increase-miss-requires : tie.Need-increase-miss-requires
 increase-miss-requires c κs = search needs
 
--- src/lib.rt:89:5
 increase-invalidate-requires : tie.Need-increase-invalidate-requires
 increase-invalidate-requires c κs = search needs
 
--- src/lib.rt:86:1
 returns : tie.Need-returns
 returns c = rw (c .increase-invalidate .ensures, c .before .increase-miss .ensures, c .before .before .increase-hit .ensures)
 

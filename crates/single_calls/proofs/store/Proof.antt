@@ -11,37 +11,29 @@ use Rattle.single_calls.proofs.store.Lts as lts
 use Rattle.sharded_lru.proofs.admit.Reads as admit-reads
 use Rattle.single_calls.proofs.store_admitted.Reads as store-admitted-reads
 
--- src/lib.rt:182:11
 admit-requires : tie.Need-admit-requires
 admit-requires c κs = search needs
 
--- src/lib.rt:183:27
 enum-known-n : tie.Need-enum-known-n
 enum-known-n c = search needs
 
--- src/lib.rt:184:26
 enum-known-g : tie.Need-enum-known-g
 enum-known-g c = search needs
 
--- src/lib.rt:184:32
 store-admitted-requires : tie.Need-store-admitted-requires
 store-admitted-requires c κs = enter _ _ _ _ _ (sym (c .before .before .before .before .admit .ensures) ∙ c .before .before .g .given .1)
 
--- src/lib.rt:169:1
 same-length : tie.Need-same-length
 same-length c = search needs
 
--- src/lib.rt:169:1
 returns : tie.Need-returns
 returns c lent next =
     let e = sym (c .before .before .before .admit .ensures) ∙ c .before .n .given .1 in
     left-refused _ _ (not-admitted-cause _ _ _ _ _ e) _ _ _ (not-admitted _ _ _ _ _ _ lent next e)
 
--- src/lib.rt:169:1
 same-length-2 : tie.Need-same-length-2
 same-length-2 c = search needs
 
--- src/lib.rt:169:1
 returns-2 : tie.Need-returns-2
 returns-2 c lent next =
     let w = admits _ _ _ _ _ (sym (c .before .before .before .before .before .before .before .admit .ensures) ∙ c .before .before .before .before .before .g .given .1) in

@@ -14,47 +14,38 @@ use Rattle.resp3.proofs.is_value.Reads as is-value-reads
 use Rattle.sharded_lru.proofs.insert.Reads as insert-reads
 use Rattle.single_calls.proofs.too_long.Reads as too-long-reads
 
--- src/lib.rt:156:8
 too-long-requires : tie.Need-too-long-requires
 too-long-requires c κs = search needs
 
--- src/lib.rt:157:9
 returns : tie.Need-returns
 unfolding overlong
 returns c rows lent next w =
     left-refused _ _ refl _ _ _ (too-long _ rows _ _ (sym (c .before .too-long .ensures) ∙ c .if1 .taken))
 
--- src/lib.rt:159:9
 is-value-requires : tie.Need-is-value-requires
 is-value-requires c κs = search needs
 
--- src/lib.rt:160:9
 returns-2 : tie.Need-returns-2
 unfolding overlong wrongBytes
 returns-2 c rows lent next w =
     left-refused _ _ refl _ _ _ (bad-bytes _ rows _ _ (sym (c .before .before .before .too-long .ensures) ∙ c .before .before .if1 .left) (ap not (sym (c .before .is-value .ensures)) ∙ c .if2 .taken))
 
--- src/lib.rt:162:8
 insert-requires : tie.Need-insert-requires
 insert-requires c κs =
     (c .before .before .before .before .before .before .before .before .before .pre, not-overlong _ _ _ (sym (c .before .before .before .before .too-long .ensures) ∙ c .before .before .before .if1 .left), sym (c .before .before .is-value .ensures) ∙ not-false _ (c .before .if2 .left))
 
--- src/lib.rt:163:9
 same-length : tie.Need-same-length
 same-length c = search needs
 
--- src/lib.rt:163:9
 returns-3 : tie.Need-returns-3
 unfolding overlong wrongBytes
 returns-3 c rows lent next w =
     let r = c .before .before .before .insert .ensures rows w in
     store-left _ _ _ rows _ next (c .before .before .before .insert .kept .0) (r .0) (sym (c .before .before .before .before .before .before .before .before .too-long .ensures) ∙ c .before .before .before .before .before .before .before .if1 .left) (ap not (sym (c .before .before .before .before .before .before .is-value .ensures)) ∙ c .before .before .before .before .before .if2 .left) lent _ _ (c .if3 .taken) (r .1)
 
--- src/lib.rt:144:1
 same-length-2 : tie.Need-same-length-2
 same-length-2 c = search needs
 
--- src/lib.rt:144:1
 returns-4 : tie.Need-returns-4
 unfolding overlong wrongBytes
 returns-4 c rows lent next w =

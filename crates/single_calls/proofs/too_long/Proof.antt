@@ -5,15 +5,12 @@ use Rattle.single_calls.proofs.too_long.Tie as tie
 use Rattle.single_calls.proofs.too_long.Reads as reads
 use Rattle.single_calls.proofs.too_long.Lts as lts
 
--- src/lib.rt:77:9
 returns : tie.Need-returns
 returns c = rw (lt-ltb _ _ (c .if1 .taken))
 
--- src/lib.rt:80:9
 returns-2 : tie.Need-returns-2
 returns-2 c = rw (le-ltb _ _ (c .before .if1 .left), lt-ltb _ _ (c .if2 .taken))
 
--- src/lib.rt:73:1
 returns-3 : tie.Need-returns-3
 returns-3 c = rw (le-ltb _ _ (c .before .if1 .left), le-ltb _ _ (c .if2 .left))
 

@@ -3,11 +3,9 @@ use borrow.Author.Needs.{needs}
 use Rattle.caching.proofs.epoch_call.redis_cache_new_epoch.Statement.{statement}
 use Rattle.caching.proofs.epoch_call.redis_cache_new_epoch.Tie as tie
 
--- src/epoch_call.rt:26:17
 increase-epoch-requires : tie.Need-increase-epoch-requires
 increase-epoch-requires c κs = search needs
 
--- src/epoch_call.rt:22:1
 returns : tie.Need-returns
 returns c = rw (c .increase-epoch .ensures)
 

@@ -14,31 +14,24 @@ use Rattle.cache_manager.proofs.get_cached_pipeline.Reads as get-cached-pipelin
 use Rattle.caching.proofs.none_yet.Reads as none-yet-reads
 use Rattle.caching.proofs.plan_call.plan_return.Reads as plan-return-reads
 
--- src/plan_call.rt:76:9
 none-yet-requires : tie.Need-none-yet-requires
 none-yet-requires c κs = search needs
 
--- src/plan_call.rt:77:9
 get-cached-pipeline-requires : tie.Need-get-cached-pipeline-requires
 get-cached-pipeline-requires c κs = search needs
 
--- src/plan_call.rt:92:17
 plan-return-requires : tie.Need-plan-return-requires
 plan-return-requires c κs = search needs
 
--- src/plan_call.rt:63:1
 same-length : tie.Need-same-length
 same-length c = search needs
 
--- src/plan_call.rt:63:1
 same-length-2 : tie.Need-same-length-2
 same-length-2 c = search needs
 
--- src/plan_call.rt:63:1
 same-length-3 : tie.Need-same-length-3
 same-length-3 c = search needs
 
--- src/plan_call.rt:63:1
 returns : tie.Need-returns
 returns c =
     let a = c .before .before .before .before .before .before .before .before .before .before .before .before .before .before .before .before .before .args in

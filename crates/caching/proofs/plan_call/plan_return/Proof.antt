@@ -11,23 +11,18 @@ use Rattle.caching.proofs.plan_call.plan_return.Reads as reads
 use Rattle.caching.proofs.plan_call.plan_return.Lts as lts
 use Rattle.caching.proofs.plan_call.refusal.Reads as refusal-reads
 
--- src/plan_call.rt:42:9
 enum-known-answer : tie.Need-enum-known-answer
 enum-known-answer c = search needs
 
--- src/plan_call.rt:50:9
 enum-known-answer-2 : tie.Need-enum-known-answer-2
 enum-known-answer-2 c = search needs
 
--- src/plan_call.rt:50:37
 refusal-requires : tie.Need-refusal-requires
 refusal-requires c κs = search needs
 
--- src/plan_call.rt:51:9
 enum-known-answer-3 : tie.Need-enum-known-answer-3
 enum-known-answer-3 c = search needs
 
--- src/plan_call.rt:51:34
 refusal-requires-2 : tie.Need-refusal-requires-2
 refusal-requires-2 c κs = search needs
 
@@ -35,17 +30,14 @@ refusal-requires-2 c κs = search needs
 abbrev returned : Pipelined → RedisCachePlan
 returned r = planReturn (returnedOf r)
 
--- src/plan_call.rt:38:1
 returns : tie.Need-returns
 unfolding causeOf
 returns c = sym (ap returned (c .before .answer .given .1))
 
--- src/plan_call.rt:38:1
 returns-2 : tie.Need-returns-2
 unfolding causeOf
 returns-2 c = c .refusal .ensures ∙ sym (ap returned (c .before .before .answer2 .given .1))
 
--- src/plan_call.rt:38:1
 returns-3 : tie.Need-returns-3
 unfolding causeOf
 returns-3 c = c .refusal2 .ensures ∙ sym (ap returned (c .before .before .answer3 .given .1))

@@ -12,23 +12,18 @@ use Rattle.caching.proofs.comes_to.Reads as comes-to-reads
 use Rattle.caching.proofs.none_yet.Reads as none-yet-reads
 use Rattle.push.proofs.handle_push.Reads as handle-push-reads
 
--- src/push_call.rt
 none-yet-requires : tie.Need-none-yet-requires
 none-yet-requires c κs = search needs
 
--- src/push_call.rt
 handle-push-requires : tie.Need-handle-push-requires
 handle-push-requires c κs = search needs
 
--- src/push_call.rt
 comes-to-requires : tie.Need-comes-to-requires
 comes-to-requires c κs = search needs
 
--- src/push_call.rt
 same-length : tie.Need-same-length
 same-length c = search needs
 
--- src/push_call.rt
 returns : tie.Need-returns
 returns c =
     let a = c .before .before .before .before .before .before .before .before .args in

@@ -19,23 +19,18 @@ use Rattle.caching_cmd.proofs.resolve.Reads as resolve-reads
 return-is : (t : ResolveReturn) (r : ResolveAnswer) (arena buffer : Bytes) → Comes t r arena buffer → answerReturn r ≡ resolveReturn t
 return-is t r arena buffer w = λ i. record { cause = w .0 i; answer = w .1 i; refused = w .2 i }
 
--- src/resolve_call.rt:51:20
 resolve-requires : tie.Need-resolve-requires
 resolve-requires c κs = search needs
 
--- src/resolve_call.rt:51:5
 resolve-return-requires : tie.Need-resolve-return-requires
 resolve-return-requires c κs = search needs
 
--- src/resolve_call.rt:36:1
 same-length : tie.Need-same-length
 same-length c = search needs
 
--- src/resolve_call.rt:36:1
 same-length-2 : tie.Need-same-length-2
 same-length-2 c = search needs
 
--- src/resolve_call.rt:36:1
 returns : tie.Need-returns
 returns c =
     let a = c .before .before .before .before .before .before .before .before .before .before .before .before .args in

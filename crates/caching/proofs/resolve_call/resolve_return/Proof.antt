@@ -7,19 +7,15 @@ use Rattle.caching.proofs.resolve_call.resolve_return.Tie as tie
 use Rattle.caching.proofs.resolve_call.resolve_return.Reads as reads
 use Rattle.caching.proofs.resolve_call.resolve_return.Lts as lts
 
--- src/resolve_call.rt:21:9
 enum-known-answer : tie.Need-enum-known-answer
 enum-known-answer c = search needs
 
--- src/resolve_call.rt:26:9
 enum-known-answer-2 : tie.Need-enum-known-answer-2
 enum-known-answer-2 c = search needs
 
--- src/resolve_call.rt:17:1
 returns : tie.Need-returns
 returns c = sym (ap answerReturn (c .before .answer .given .1))
 
--- src/resolve_call.rt:17:1
 returns-2 : tie.Need-returns-2
 returns-2 c = sym (ap answerReturn (c .before .answer2 .given .1))
 

@@ -9,19 +9,15 @@ use Rattle.caching.proofs.served_call.redis_cache_served.Lts as lts
 use Rattle.caching.proofs.served_call.served_return.Reads as served-return-reads
 use Rattle.served.proofs.served.Reads as served-reads
 
--- src/served_call.rt:46:19
 served-requires : tie.Need-served-requires
 served-requires c κs = search needs
 
--- src/served_call.rt:46:5
 served-return-requires : tie.Need-served-return-requires
 served-return-requires c κs = search needs
 
--- src/served_call.rt:41:1
 same-length : tie.Need-same-length
 same-length c = search needs
 
--- src/served_call.rt:41:1
 returns : tie.Need-returns
 returns c = (c .served-return .ensures ∙ ap servedReturn (c .before .before .before .served .ensures .0), c .before .before .before .served .ensures .1)
 

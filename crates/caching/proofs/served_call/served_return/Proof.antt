@@ -7,27 +7,21 @@ use Rattle.caching.proofs.served_call.served_return.Tie as tie
 use Rattle.caching.proofs.served_call.served_return.Reads as reads
 use Rattle.caching.proofs.served_call.served_return.Lts as lts
 
--- src/served_call.rt:22:32
 enum-known-answer : tie.Need-enum-known-answer
 enum-known-answer c = search needs
 
--- src/served_call.rt:27:39
 enum-told : tie.Need-enum-told
 enum-told c = search needs
 
--- src/served_call.rt:32:31
 enum-known-answer-2 : tie.Need-enum-known-answer-2
 enum-known-answer-2 c = search needs
 
--- src/served_call.rt:18:1
 returns : tie.Need-returns
 returns c = sym (ap servedReturn (c .before .answer .given .1))
 
--- src/served_call.rt:18:1
 returns-2 : tie.Need-returns-2
 returns-2 c = sym (ap servedReturn (c .enum-told .given .1))
 
--- src/served_call.rt:18:1
 returns-3 : tie.Need-returns-3
 returns-3 c = sym (ap servedReturn (c .before .answer2 .given .1))
 

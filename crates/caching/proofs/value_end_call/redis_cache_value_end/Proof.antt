@@ -9,15 +9,12 @@ use Rattle.caching.proofs.value_end_call.redis_cache_value_end.Lts as l
 use Rattle.caching.proofs.value_end_call.value_end_return.Reads as value-end-return-reads
 use Rattle.resp3_prefix.proofs.first_value.Reads as first-value-reads
 
--- src/value_end_call.rt:39:22
 first-value-requires : tie.Need-first-value-requires
 first-value-requires c κs = search needs
 
--- src/value_end_call.rt:39:5
 value-end-return-requires : tie.Need-value-end-return-requires
 value-end-return-requires c κs = search needs
 
--- src/value_end_call.rt:35:1
 returns : tie.Need-returns
 returns c = c .value-end-return .ensures ∙ ap valueEndReturn (c .before .first-value .ensures)
 

@@ -7,27 +7,21 @@ use Rattle.caching.proofs.value_end_call.value_end_return.Tie as tie
 use Rattle.caching.proofs.value_end_call.value_end_return.Reads as reads
 use Rattle.caching.proofs.value_end_call.value_end_return.Lts as lts
 
--- src/value_end_call.rt:19:21
 enum-known-x : tie.Need-enum-known-x
 enum-known-x c = search needs
 
--- src/value_end_call.rt:23:22
 enum-known-x-2 : tie.Need-enum-known-x-2
 enum-known-x-2 c = search needs
 
--- src/value_end_call.rt:27:25
 enum-told : tie.Need-enum-told
 enum-told c = search needs
 
--- src/value_end_call.rt:15:1
 returns : tie.Need-returns
 returns c = sym (ap valueEndReturn (c .before .x .given .1))
 
--- src/value_end_call.rt:15:1
 returns-2 : tie.Need-returns-2
 returns-2 c = sym (ap valueEndReturn (c .before .x2 .given .1))
 
--- src/value_end_call.rt:15:1
 returns-3 : tie.Need-returns-3
 returns-3 c = sym (ap valueEndReturn (c .enum-told .given .1))
 
