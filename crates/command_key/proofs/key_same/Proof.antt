@@ -1,6 +1,5 @@
 -- `command_key::key_same` meets its contract. Assumes nothing.
 use mathlib.Core.Path.{ap, _∙_}
-use Prim.Native.Nat.{_-_}
 use Rattle.command_key.specs.Keys as keys
 use Rattle.buffer.specs.Same.{same}
 use borrow.Author.Needs.{needs}

@@ -1,5 +1,4 @@
 -- `command_key::named_copy` meets its contract. Assumes nothing.
-use Prim.Native.Nat.{_-_}
 use native.Mathlib.Omega.{arith}
 use Rattle.command_key.specs.Named as laws
 use borrow.Author.Needs.{needs}

@@ -1,6 +1,5 @@
 -- `command_key::named_same` meets its contract. Assumes nothing.
 use mathlib.Core.Path.{sym, _∙_}
-use Prim.Native.Nat.{_-_}
 use native.Mathlib.Omega.{arith}
 use Rattle.command_key.specs.Named as laws
 use borrow.Author.Needs.{needs}
