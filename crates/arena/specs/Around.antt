@@ -62,7 +62,8 @@ around n (suc m) s rows Y h =
           whole = append-assoc (encShards n m rows) (encShard n (rows m)) Y ∙ g .whole;
           changed = λ row.
               append-assoc (encShards n m (setRow s row rows)) (encShard n (setRow s row rows m)) Y
-              ∙ ap (λ (w : Row). encShards n m (setRow s row rows) ++ (encShard n w ++ Y)) (row-elsewhere s m row rows (ne-eqb m s (λ q. eqb-false s m e (sym q))))
+              ∙ ap (λ (w : Row). encShards n m (setRow s row rows) ++ (encShard n w ++ Y))
+              (row-elsewhere s m row rows (ne-eqb m s (λ q. eqb-false s m e (sym q))))
               ∙ g .changed row;
         }
 

@@ -12,7 +12,8 @@ use Rattle.buffer.specs.Part.{part, put}
 use Rattle.book.specs.Book.{Setup, Entry, Item, Row, book-defs}
 use Rattle.arena.specs.Layout.{zeros, head, itemHead, encEntry, encEntries, encItem, encItems, encShard, encShards, encode}
 use Rattle.arena.specs.Place.{entriesPlace, itemsPlace, shardPlace, arenaPlace}
-use Rattle.arena.specs.Decode.{readEntry, readEntries, readItem, readItems, readShard, readArena, every, distinctKeys, distinctCommands, mayStore, itemFits, itemFine, rowFine, rowsFine, isImage, decode}
+use Rattle.arena.specs.Decode.{readEntry, readEntries, readItem, readItems, readShard, readArena, every, distinctKeys, distinctCommands}
+use Rattle.arena.specs.Decode.{mayStore, itemFits, itemFine, rowFine, rowsFine, isImage, decode}
 
 -- one name that opens both pages
 unfoldable arena-defs : Unit {0}

@@ -75,7 +75,8 @@ module _ (isValue : Bytes → Bool) where
 
   -- every entry of an item may be stored; epoch and expiry are numbers of 64 bits
   unfoldable pub itemFits : Item → Bool
-  itemFits it = every (ltb (it .epoch) (2 ^ 64) ∷ ltb (it .expiry) (2 ^ 64) ∷ every (map (λ en. mayStore (it .key) (en .command) (en .value)) (it .entries)) ∷ [])
+  itemFits it =
+      every (ltb (it .epoch) (2 ^ 64) ∷ ltb (it .expiry) (2 ^ 64) ∷ every (map (λ en. mayStore (it .key) (en .command) (en .value)) (it .entries)) ∷ [])
 
   module _ (p : Setup) where
     -- an item of shard s: "[keys] hash to their shard; every item has an entry; the command keys of an item are distinct"

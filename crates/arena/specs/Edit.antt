@@ -87,7 +87,8 @@ item-forward n front back it =
     let b : rowBytes was ≡ rowBytes now = omega (arith, three-bytes front (it ∷ []) back, rowBytes-append front back) in
     let c : length was ≡ length now = simp length-append (omega arith) in
     ap (λ (s : Bytes). rotated s 16 (placeAfter front) (placeAfter front + itemBytes it)) (opened n front (it ∷ []) back)
-    ∙ rotated-at H F M Z 16 (placeAfter front) (placeAfter front + itemBytes it) (length-head _ _) (omega (arith, length-items front)) (omega (arith, length-items (it ∷ [])))
+    ∙ rotated-at H F M Z 16 (placeAfter front) (placeAfter front + itemBytes it) (length-head _ _) (omega (arith, length-items front))
+    (omega (arith, length-items (it ∷ [])))
     ∙ ap₂ (λ (i j : ℕ). head i j ++ (M ++ (F ++ (encItems back ++ zeros (n - (16 + j)))))) c b
     ∙ sym (opened n (it ∷ []) front back)
 
@@ -165,7 +166,8 @@ module _ (n : ℕ) (front back : Row) (k : Bytes) (e x t : ℕ) (ef em eb en : L
       let count : length was ≡ length now = simp length-append in
       rw (entries-spliced h l)
       (ap (λ (s : Bytes). put s 4 (le32 (rowBytes now)))
-      (put-fields (H ++ F) at lx (length k) e rest (length (ef ++ (em ++ eb))) x (entryBytes (ef ++ (em ++ eb))) (length (ef ++ (en ++ eb))) t (entryBytes (ef ++ (en ++ eb)))
+      (put-fields (H ++ F) at lx (length k) e rest (length (ef ++ (em ++ eb))) x (entryBytes (ef ++ (em ++ eb))) (length (ef ++ (en ++ eb))) t
+      (entryBytes (ef ++ (en ++ eb)))
       ∙ append-assoc H F (I ++ rest))
       ∙ put-second (length was) (rowBytes was) (rowBytes now) (F ++ (I ++ rest))
       ∙ ap (λ (i : ℕ). head i (rowBytes now) ++ (F ++ (I ++ rest))) count

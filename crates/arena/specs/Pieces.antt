@@ -48,7 +48,8 @@ module _ (a b c : ℕ) (Y : Bytes) where
   pub put-second : put (head a b ++ Y) 4 (le32 c) ≡ head a c ++ Y
   unfolding head
   put-second =
-      field-put (head a b ++ Y) (head a c ++ Y) (le32 a) (le32 b) (zeros 8 ++ Y) (le32 c) 4 (simp append-assoc) (simp append-assoc) (length-le 4 a) (simp length-le)
+      field-put (head a b ++ Y) (head a c ++ Y) (le32 a) (le32 b) (zeros 8 ++ Y) (le32 c) 4 (simp append-assoc) (simp append-assoc) (length-le 4 a)
+      (simp length-le)
 
 -- both of them
 pub put-both : (a b c d : ℕ) (Y : Bytes) → put (put (head a b ++ Y) 0 (le32 c)) 4 (le32 d) ≡ head c d ++ Y
@@ -96,7 +97,9 @@ opened n front mid back =
     let Z : Bytes = zeros (n - (16 + rowBytes (front ++ (mid ++ back)))) in
     let H : Bytes = head (length (front ++ (mid ++ back))) (rowBytes (front ++ (mid ++ back))) in
     ap (λ (z : Bytes). H ++ (z ++ Z)) (encItems-append front (mid ++ back) ∙ ap (λ (z : Bytes). encItems front ++ z) (encItems-append mid back))
-    ∙ ap (λ (z : Bytes). H ++ z) (append-assoc (encItems front) (encItems mid ++ encItems back) Z ∙ ap (λ (z : Bytes). encItems front ++ z) (append-assoc (encItems mid) (encItems back) Z))
+    ∙ ap (λ (z : Bytes). H ++ z)
+    (append-assoc (encItems front) (encItems mid ++ encItems back) Z
+    ∙ ap (λ (z : Bytes). encItems front ++ z) (append-assoc (encItems mid) (encItems back) Z))
 
 -- an item of these parts
 abbrev pub itemOf : Bytes → ℕ → ℕ → List Entry → Item

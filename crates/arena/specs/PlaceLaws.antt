@@ -1,11 +1,10 @@
--- At its place stands the value: the part of the encoded shard, and of the encoded arena, that begins there and is as long as the value is the value. So what is
--- told of a place (Place.antt) is told of the entry's own bytes. Assumes that the key's item has a value for the command key.
-use mathlib.Core.Path.{_≡_, refl, sym, ap, _∙_}
-use Prim.Native.Nat.{ℕ, _+_, _*_, _≤_, _<_}
+-- At its place stands the value: the part of the encoded shard, and of the encoded arena, that begins there and is as long as the value is the value. So what
+-- is told of a place (Place.antt) is told of the entry's own bytes. Assumes that the key's item has a value for the command key.
+use mathlib.Core.Path.{_≡_, sym, ap, _∙_}
+use Prim.Native.Nat.{ℕ, _+_, _*_, _≤_}
 use native.Mathlib.Omega.{arith}
-use native.Mathlib.Nat.{mul-le-mul-right}
 use mathlib.Core.Bool.{Bool, true, false}
-use mathlib.Core.Option.{none, some, Option·none-ne-some, Option·some-injective}
+use mathlib.Core.Option.{some, Option·none-ne-some, Option·some-injective}
 use mathlib.Core.List.{List, [], _∷_, _++_, append-assoc}
 use lib.ListN.{length, length-append}
 use Rattle.buffer.specs.Cases.{byTest}
@@ -13,7 +12,7 @@ use Rattle.buffer.specs.Same.{Bytes, same}
 use Rattle.buffer.specs.Part.{part, part-past, part-part}
 use Rattle.book.specs.Book.{Setup, Entry, Item, Row, find, valueFor, entryBytes, rowBytes}
 use Rattle.book.specs.Trace.{Proper}
-use Rattle.arena.specs.Layout.{zeros, head, itemHead, encEntry, encEntries, encItem, encItems, encShard, encode}
+use Rattle.arena.specs.Layout.{head, itemHead, encEntry, encEntries, encItem, encItems, encShard, encode}
 use Rattle.arena.specs.Length.{length-head, length-itemHead, length-entry, length-item}
 use Rattle.arena.specs.Read.{entry-value}
 use Rattle.arena.specs.Around.{shard-part}

@@ -1,6 +1,6 @@
 -- Single stores, the oldest item's first and each item's entries in their order, make any sound row from an empty one. Assumes nothing of the setup.
 use mathlib.Core.Path.{_≡_, refl, sym, ap, _∙_}
-use Prim.Native.Nat.{ℕ, _+_, _-_, _≤_, _<_}
+use Prim.Native.Nat.{ℕ, _-_, _≤_, _<_}
 use native.Mathlib.Omega.{arith}
 use mathlib.Core.Option.{none, Option·none-ne-some}
 use mathlib.Core.List.{List, [], _∷_, _++_, append-assoc, append-nil}
@@ -8,7 +8,8 @@ use lib.ListN.{length}
 use borrow.Author.Tests.{le-leb, lt-leb}
 use Rattle.buffer.specs.Cases.{byTest, eqb-same}
 use Rattle.buffer.specs.Same.{Bytes, same, same-refl, same-eq}
-use Rattle.book.specs.Book.{Setup, Entry, Item, Row, find, replace, valueFor, setValue, roomForOne, storedRow, entryBytes, rowBytes, fits, ifFits, Keyed, store, effectOn}
+use Rattle.book.specs.Book.{Setup, Entry, Item, Row, find, replace, valueFor, setValue, roomForOne, storedRow, entryBytes, rowBytes, fits, ifFits}
+use Rattle.book.specs.Book.{Keyed, store, effectOn}
 use Rattle.book.specs.Each.{Each}
 use Rattle.book.specs.Sound.{DistinctCommands, Sound}
 use Rattle.arena.specs.All.{All, all-append}

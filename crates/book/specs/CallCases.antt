@@ -7,7 +7,8 @@ use mathlib.Core.Option.{Option, none, some}
 use mathlib.Core.List.{List, [], _∷_}
 use Rattle.buffer.specs.Same.{Bytes}
 use Rattle.book.specs.Book.{Row, Counts, fresh, plus, newItem, Answer, hit, miss, stored, noSpace, number, store, book-defs}
-use Rattle.book.specs.Calls.{Wanted, Storing, Call, planning, resolving, resolving7, push, pushAll, single, takeEpoch, refused, refusals, afterCalls, replies, lookups, stores, invalidations, ons, call-defs}
+use Rattle.book.specs.Calls.{Wanted, Storing, Call, planning, resolving, resolving7, push, pushAll, single, takeEpoch, refused, refusals}
+use Rattle.book.specs.Calls.{afterCalls, replies, lookups, stores, invalidations, ons, call-defs}
 use Rattle.book.specs.Cases.{holding, none-yet, a, b, d, get, len, u, w}
 
 unfoldable pub said : List Call → List (Option (List Answer))

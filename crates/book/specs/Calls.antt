@@ -8,7 +8,8 @@ use mathlib.Core.Path.{_≡_}
 use mathlib.Core.List.{List, [], _∷_}
 use mathlib.Core.Logic.{_≢_}
 use Rattle.buffer.specs.Same.{Bytes}
-use Rattle.book.specs.Book.{Setup, Book, Answer, hit, miss, stored, noSpace, invalidated, number, Keyed, lookup, store, invalidate, keyOf, Event, on, invalidateAll, newEpoch, after, afterAll, answers}
+use Rattle.book.specs.Book.{Setup, Book, Answer, hit, miss, stored, noSpace, invalidated, number, Keyed, lookup, store, invalidate, keyOf}
+use Rattle.book.specs.Book.{Event, on, invalidateAll, newEpoch, after, afterAll, answers}
 
 -- what a planning looks up
 pub record Wanted : Type 0 where

@@ -4,7 +4,8 @@ use mathlib.Core.Path.{_≡_, refl}
 use Prim.Native.Nat.{ℕ, _-_, _^_}
 use mathlib.Core.List.{List, [], _∷_}
 use Rattle.buffer.specs.Same.{Bytes}
-use Rattle.book.specs.Book.{Setup, Entry, Item, Row, Counts, fresh, plus, newItem, rowBytes, Answer, hit, miss, stored, noSpace, number, lookup, store, invalidate, Event, on, invalidateAll, newEpoch, afterAll, answers, book-defs}
+use Rattle.book.specs.Book.{Setup, Entry, Item, Row, Counts, fresh, plus, newItem, rowBytes, Answer, hit, miss, stored, noSpace, number}
+use Rattle.book.specs.Book.{lookup, store, invalidate, Event, on, invalidateAll, newEpoch, afterAll, answers, book-defs}
 
 -- ---- the setup of the cases, and short names
 
@@ -222,7 +223,8 @@ unfolding book-defs
 space-freed = refl
 
 -- a store that lacks space changes nothing: not the item that it would update, replace or drop
-pub nothing-changed : afterAll (holding 80) (on (store key3 command6 value7 10 7) ∷ on (store key3 get u 99 7) ∷ on (store a get u 99 7) ∷ []) (fresh none-yet) .rows 0
+pub nothing-changed : afterAll (holding 80) (on (store key3 command6 value7 10 7) ∷ on (store key3 get u 99 7) ∷ on (store a get u 99 7) ∷ [])
+    (fresh none-yet) .rows 0
     ≡ newItem key3 command6 value7 10 7 ∷ []
 unfolding book-defs
 nothing-changed = refl

@@ -1,4 +1,5 @@
--- The counts and the next number stay below 2^64, and a store leaves the counts as they were: a call that only stores need not be given them. Assumes that the counts first lent are of 64 bits.
+-- The counts and the next number stay below 2^64, and a store leaves the counts as they were: a call that only stores need not be given them. Assumes that
+-- the counts first lent are of 64 bits.
 use mathlib.Core.Path.{_≡_, refl, ap, _∙_}
 use Prim.Native.Nat.{ℕ, _+_, _^_, _<_}
 use native.Mathlib.Nat.{mod-lt, mod-eq-of-lt}

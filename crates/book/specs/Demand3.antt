@@ -16,8 +16,11 @@ use borrow.Author.Tests.{le-leb, lt-leb}
 use Rattle.buffer.specs.Cases.{byTest}
 use Rattle.buffer.specs.Same.{Bytes}
 use Rattle.config.specs.Wrap.{wrap}
-use Rattle.book.specs.Book.{Row, Setup, Book, Counts, Answer, hit, miss, stored, noSpace, number, Keyed, lookup, store, Event, on, fresh, find, storedRow, rowBytes, fits, ifFits, keyOf, effectOn, effect, put, after, answerTo, afterAll, answers}
-use Rattle.book.specs.Calls.{Storing, Call, planning, resolving, resolving7, push, pushAll, single, takeEpoch, refused, lookups, stores, invalidations, ons, eventsOf, isRefused, afterCall, replyTo, refusals, afterCalls, replies, run, onto, traced, shardsOf, NoneCommon, call-defs}
+use Rattle.book.specs.Book.{Row, Setup, Book, Counts, Answer, hit, miss, stored, noSpace, number, Keyed, lookup, store, Event, on, fresh, find}
+use Rattle.book.specs.Book.{storedRow, rowBytes, fits, ifFits, keyOf, effectOn, effect, put, after, answerTo, afterAll, answers}
+use Rattle.book.specs.Calls.{Storing, Call, planning, resolving, resolving7, push, pushAll, single, takeEpoch, refused, lookups, stores}
+use Rattle.book.specs.Calls.{invalidations, ons, eventsOf, isRefused, afterCall, replyTo, refusals, afterCalls, replies, run, onto, traced}
+use Rattle.book.specs.Calls.{shardsOf, NoneCommon, call-defs}
 use Rattle.book.specs.Residence.{ServedBy}
 use Rattle.book.specs.Trace.{Proper, SoundBook, sound, none-beyond, run-onto, run-traced}
 use Rattle.book.specs.Counts.{Counted}
@@ -238,7 +241,8 @@ demand-three p o lent cs =
       singleStored = λ before later k c v x e q fit. single-reply before k c v x e true (unfold fits in le-leb _ _ fit);
       singleRefused = λ before later k c v x e q over. single-reply before k c v x e false (unfold fits in lt-leb _ _ over);
       epochs = λ before later q. epoch-reply before;
-      reported = λ before later e ws q. (answers p (ons (stores e ws)) (bookOf p lent before), unfold call-defs in refl, lacking-is p e ws (bookOf p lent before));
+      reported =
+          λ before later e ws q. (answers p (ons (stores e ws)) (bookOf p lent before), unfold call-defs in refl, lacking-is p e ws (bookOf p lent before));
       left = book-is;
       rows = subst (SoundBook p) (sym book-is) (sound p (o .some-key) lent (traceOf p lent cs));
       noOthers = λ s l. ap (λ (z : Book). z .rows s) book-is ∙ none-beyond p o lent (traceOf p lent cs) s l;

@@ -1,7 +1,6 @@
 -- Demand 3 at work on one sequence: a store, then a planning of two lookups, of which the second is served. So its lookups' clause says something of lookups
 -- in a planning, and its assumptions can be met. Runs on a fresh book of one shard of two keys and 400 bytes.
 use mathlib.Core.Path.{_≡_, refl}
-use Prim.Native.Nat.{ℕ, _≤_, _<_}
 use native.Mathlib.Omega.{arith}
 use mathlib.Core.Bool.{false}
 use mathlib.Core.Option.{some}

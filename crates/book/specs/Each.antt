@@ -8,7 +8,8 @@ use lib.Dec.{eqb, leb}
 use lib.ListN.{length}
 use Rattle.buffer.specs.Cases.{byTest}
 use Rattle.buffer.specs.Same.{Bytes, same}
-use Rattle.book.specs.Book.{Item, Row, Setup, Keyed, lookup, store, invalidate, find, without, replace, withoutOldest, valueFor, current, serve, lookupItem, newItem, updated, roomForOne, storedRow, ifFits, effectOn}
+use Rattle.book.specs.Book.{Item, Row, Setup, Keyed, lookup, store, invalidate, find, without, replace, withoutOldest, valueFor, current}
+use Rattle.book.specs.Book.{serve, lookupItem, newItem, updated, roomForOne, storedRow, ifFits, effectOn}
 use Rattle.book.specs.Rows.{found-key}
 
 -- every item of the row has the property

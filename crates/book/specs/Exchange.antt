@@ -14,7 +14,8 @@ use Rattle.buffer.specs.Cases.{byTest}
 use Rattle.buffer.specs.Same.{Bytes}
 use Rattle.config.specs.Wrap.{wrap}
 use Rattle.book.specs.Book.{Row, Setup, Book, Counts, Effect, Answer, Keyed, keyOf, on, count, setRow, put, effect, after, answerTo, afterAll, answers}
-use Rattle.book.specs.Calls.{Call, push, pushAll, single, refused, invalidations, ons, afterCall, replyTo, afterCalls, replies, homes, these, shardsOf, NotAmong, Apart, NoneCommon, call-defs}
+use Rattle.book.specs.Calls.{Call, push, pushAll, single, refused, invalidations, ons, afterCall, replyTo, afterCalls, replies, homes, these}
+use Rattle.book.specs.Calls.{shardsOf, NotAmong, Apart, NoneCommon, call-defs}
 use Rattle.book.specs.Trace.{row-elsewhere}
 
 -- ---- two events in different shards

@@ -11,8 +11,9 @@ use lib.Dec.{eqb}
 use borrow.Author.Tests.{eqb-true, leb-true, le-leb}
 use Rattle.buffer.specs.Cases.{byTest, eqb-same}
 use Rattle.buffer.specs.Same.{Bytes, same}
-use Rattle.book.specs.Book.{Item, Row, Setup, Book, Answer, hit, miss, lookup, on, find, without, valueFor, current, serve, lookupItem, keyOf, effectOn, effect, put, after, answerTo, answers}
-use Rattle.book.specs.Calls.{Wanted, planning, lookups, ons, happening, replyTo, call-defs}
+use Rattle.book.specs.Book.{Item, Row, Setup, Book, Answer, hit, miss, lookup, on, find, without, valueFor, current, serve, lookupItem, keyOf}
+use Rattle.book.specs.Book.{effectOn, effect, put, after, answerTo, answers}
+use Rattle.book.specs.Calls.{Wanted, planning, lookups, ons, replyTo, call-defs}
 use Rattle.book.specs.Trace.{row-here, row-elsewhere}
 use Rattle.book.specs.Residence.{itemOf}
 use Rattle.book.specs.Items.{ifCurrent, lookup-in}
@@ -156,12 +157,6 @@ planned p t e [] bk = refl
 planned p t e (w ∷ ws) bk =
     ap (λ (z : List Answer). answerTo p (on (lookup (w .key) (w .command) t e)) bk ∷ z)
     (planned p t e ws (after p (on (lookup (w .key) (w .command) t e)) bk) ∙ dry-after p (w .key) (w .command) t e bk ws)
-
--- so whether cause 5 refuses it is judged before its first lookup
-pub planning-happens : (p : Setup) (t e : ℕ) (ws : List Wanted) (short : List Answer → Bool) (bk : Book)
-    → happening p (planning t e ws short) bk ≡ cond (short (dry p bk t e ws)) [] (ons (lookups t e ws))
-unfolding call-defs
-planning-happens p t e ws short bk = rw planned
 
 -- and so is its answer
 pub planning-reply : (p : Setup) (t e : ℕ) (ws : List Wanted) (short : List Answer → Bool) (bk : Book)

@@ -8,7 +8,8 @@ use mathlib.Core.Option.{Option, none, some}
 use mathlib.Core.List.{List, [], _∷_, _++_}
 use lib.Dec.{eqb}
 use Rattle.buffer.specs.Same.{Bytes, same}
-use Rattle.book.specs.Book.{Item, Setup, Book, Answer, hit, miss, stored, noSpace, invalidated, number, lookup, store, invalidate, Event, on, invalidateAll, newEpoch, find, after, answerTo}
+use Rattle.book.specs.Book.{Item, Setup, Book, Answer, hit, miss, stored, noSpace, invalidated, number, lookup, store, invalidate, Event, on}
+use Rattle.book.specs.Book.{invalidateAll, newEpoch, find, after, answerTo}
 use Rattle.book.specs.Calls.{run}
 
 -- ---- an item's stay

@@ -8,7 +8,8 @@ use mathlib.Core.Option.{none}
 use mathlib.Core.List.{List, [], _∷_}
 use Rattle.book.specs.Book.{fresh, lookup, store, invalidate, Event, on, invalidateAll, newEpoch, book-defs}
 use Rattle.book.specs.Calls.{run, pushAll, single, shardsOf, homes, NoneCommon}
-use Rattle.book.specs.Residence.{itemOf, hasUnder, leaves, ends, KeptStore, isStored, keptBy, consIf, keptIn, opening, Residence, latestOf, latestUnder, laterStores, storesOf, expiryOf}
+use Rattle.book.specs.Residence.{itemOf, hasUnder, leaves, ends, KeptStore, isStored, keptBy, consIf, keptIn, opening, Residence, latestOf}
+use Rattle.book.specs.Residence.{latestUnder, laterStores, storesOf, expiryOf}
 use Rattle.book.specs.Cases.{holding, none-yet, a, b, d, get, len, u, w, key3, command6, value7}
 
 -- whether an event ends the stay of a's item after the trace

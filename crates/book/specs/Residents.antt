@@ -12,7 +12,8 @@ use Rattle.book.specs.Book.{Entry, Item, Setup, Book, Counts, hit, looku
 use Rattle.book.specs.Rows.{same-comm, value-set, value-set-other}
 use Rattle.book.specs.Calls.{run}
 use Rattle.book.specs.Trace.{sound}
-use Rattle.book.specs.Residence.{itemOf, hasUnder, ends, KeptStore, isStored, keptBy, consIf, keptIn, opening, Lasts, Residence, latestOf, latestUnder, laterStores, storesOf, expiryOf, ServedBy}
+use Rattle.book.specs.Residence.{itemOf, hasUnder, ends, KeptStore, isStored, keptBy, consIf, keptIn, opening, Lasts, Residence, latestOf}
+use Rattle.book.specs.Residence.{latestUnder, laterStores, storesOf, expiryOf, ServedBy}
 use Rattle.book.specs.Lookups.{lookup-answer, Serving, serving}
 use Rattle.book.specs.Stays.{grown, brought, opening-brings, opening-ends, stay-grows, Arrived, stayed, opened, arrived}
 

@@ -11,8 +11,11 @@ use lib.Dec.{eqb, leb}
 use borrow.Author.Tests.{leb-true, leb-false}
 use Rattle.buffer.specs.Cases.{byTest}
 use Rattle.buffer.specs.Same.{Bytes, same, same-eq}
-use Rattle.book.specs.Book.{Entry, Item, Row, Setup, Keyed, lookup, store, invalidate, find, without, replace, withoutOldest, valueFor, setValue, rowBytes, current, serve, lookupItem, newItem, updated, roomForOne, storedRow, fits, ifFits, keyOf, effectOn}
-use Rattle.book.specs.Rows.{not-absent, find-without, find-without-other, without-absent, found-key, find-replace-other, value-set-other, Distinct, Place, place, isOldest, find-withoutOldest}
+use Rattle.book.specs.Book.{Entry, Item, Row, Setup, Keyed, lookup, store, invalidate, find, without, replace, withoutOldest, valueFor}
+use Rattle.book.specs.Book.{setValue, rowBytes, current, serve, lookupItem, newItem, updated, roomForOne, storedRow, fits, ifFits, keyOf}
+use Rattle.book.specs.Book.{effectOn}
+use Rattle.book.specs.Rows.{not-absent, find-without, find-without-other, without-absent, found-key, find-replace-other, value-set-other}
+use Rattle.book.specs.Rows.{Distinct, Place, place, isOldest, find-withoutOldest}
 use Rattle.book.specs.Each.{Each, Brings, each-effectOn}
 
 -- ---- the invariant

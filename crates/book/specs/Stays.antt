@@ -7,7 +7,8 @@ use lib.Dec.{eqb}
 use borrow.Author.Tests.{eqb-false, ne-eqb, eqb-true}
 use Rattle.buffer.specs.Cases.{byTest, eqb-same}
 use Rattle.buffer.specs.Same.{Bytes, same, same-refl, same-eq}
-use Rattle.book.specs.Book.{Item, Setup, Book, Keyed, lookup, store, invalidate, Event, on, invalidateAll, newEpoch, current, newItem, updated, keyOf, effectOn, effect, after, answerTo}
+use Rattle.book.specs.Book.{Item, Setup, Book, Keyed, lookup, store, invalidate, Event, on, invalidateAll, newEpoch, current, newItem, updated}
+use Rattle.book.specs.Book.{keyOf, effectOn, effect, after, answerTo}
 use Rattle.book.specs.Trace.{SoundBook}
 use Rattle.book.specs.Residence.{itemOf, hasUnder, leaves, ends, KeptStore, isStored, keptBy, opening}
 use Rattle.book.specs.Items.{storedItem, evicts, turned, turned-defs, item-after}

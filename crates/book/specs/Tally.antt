@@ -1,17 +1,20 @@
 -- Rule B11 for hits and misses: after a sequence of calls the two counts are those at its start and the hits and misses that the calls
 -- answered, wrapping. Assumes of the counts at the start that they are of 64 bits.
 use mathlib.Core.Path.{_≡_, refl, sym, ap, ap₂, _∙_}
-use Prim.Native.Nat.{ℕ, _+_, _%_, _^_, _<_}
+use Prim.Native.Nat.{ℕ, _+_, _^_}
 use native.Mathlib.Nat.{mod-add-mod, mod-eq-of-lt}
 use native.Mathlib.Omega.{arith}
-use mathlib.Core.Bool.{Bool, true, false, cond}
+use mathlib.Core.Bool.{Bool, true, false}
 use mathlib.Core.Option.{Option, none, some}
 use mathlib.Core.List.{List, [], _∷_}
 use Rattle.buffer.specs.Cases.{byTest}
 use Rattle.buffer.specs.Same.{Bytes}
 use Rattle.config.specs.Wrap.{wrap}
-use Rattle.book.specs.Book.{Item, Row, Setup, Book, Counts, Effect, plus, Answer, hit, miss, stored, noSpace, invalidated, number, Keyed, lookup, store, invalidate, Event, on, invalidateAll, newEpoch, find, without, valueFor, current, serve, lookupItem, ifFits, keyOf, effectOn, effect, count, put, after, answerTo, afterAll, answers}
-use Rattle.book.specs.Calls.{Storing, Call, planning, resolving, resolving7, push, pushAll, single, takeEpoch, refused, stores, ons, eventsOf, isRefused, remaining, happening, afterCall, replyTo, afterCalls, replies, call-defs}
+use Rattle.book.specs.Book.{Item, Row, Setup, Book, Counts, plus, Answer, hit, miss, stored, noSpace, invalidated, number, Keyed, lookup}
+use Rattle.book.specs.Book.{store, invalidate, Event, on, invalidateAll, newEpoch, find, without, valueFor, current, serve, lookupItem, ifFits}
+use Rattle.book.specs.Book.{keyOf, effectOn, effect, count, put, after, answerTo, afterAll, answers}
+use Rattle.book.specs.Calls.{Storing, Call, planning, resolving, resolving7, push, pushAll, single, takeEpoch, refused, stores, ons, eventsOf}
+use Rattle.book.specs.Calls.{isRefused, remaining, happening, afterCall, replyTo, afterCalls, replies}
 use Rattle.book.specs.Counts.{Counted, fit-adds}
 
 -- ---- what is counted

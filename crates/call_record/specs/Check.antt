@@ -1,6 +1,6 @@
 -- The check of a call record as a definition, and what its answers mean (`check-fine`, `check-offset`). Assumes nothing.
 use mathlib.Core.Path.{_≡_, refl, sym, ap, _∙_}
-use mathlib.Core.Logic.{_↔_, _⊎_, inl, inr, ⊎-elim}
+use mathlib.Core.Logic.{_↔_, inl, inr, ⊎-elim}
 use mathlib.Core.List.{[], _∷_, _++_, append-nil, append-assoc}
 use Prim.Native.Nat.{ℕ, _+_, _-_, _≤_, _<_}
 use native.Mathlib.Omega.{arith}
@@ -121,7 +121,8 @@ early s o h k =
     let b = recordF .early s k in
     record {
       allowed = inr (h, lacks s b k);
-      before = record { value = b .value; rest = b .rest; fine = b .fine; bytes = b .bytes ∙ ap (λ (l : Bytes). l ++ b .rest) (sym (take-all o s (omega arith))) };
+      before =
+          record { value = b .value; rest = b .rest; fine = b .fine; bytes = b .bytes ∙ ap (λ (l : Bytes). l ++ b .rest) (sym (take-all o s (omega arith))) };
     }
 
 -- what an answered offset means
@@ -145,7 +146,8 @@ none-earlier s o p l b a h =
     ⊎-elim
     (λ w. w .1 (b .value) (drop (p + 1) (take o s) ++ b .rest) (b .fine)
     (b .bytes
-    ∙ ap (λ (x : Bytes). x ++ b .rest) (sym (take-append-drop (p + 1) (take o s)) ∙ ap (λ (x : Bytes). x ++ drop (p + 1) (take o s)) (take-take (p + 1) o s (omega arith)))
+    ∙ ap (λ (x : Bytes). x ++ b .rest)
+    (sym (take-append-drop (p + 1) (take o s)) ∙ ap (λ (x : Bytes). x ++ drop (p + 1) (take o s)) (take-take (p + 1) o s (omega arith)))
     ∙ append-assoc (take (p + 1) s) (drop (p + 1) (take o s)) (b .rest)))
     (λ w. let e = w .0 in omega arith)
     a

@@ -12,11 +12,13 @@ use Rattle.format.specs.declared.End.{End}
 use Rattle.format.specs.declared.End.the-variants.{At, Wrong}
 use Rattle.format.specs.Format.{Read, ok, bad, short, byteF}
 use Rattle.format.specs.Words.{wordF}
-use Rattle.format.specs.Ends.{endOf, endAt, got-of, some-at, at-some, both-go, both-wrong, map-end, byte-got, byte-bad, byte-out, manyEnd, many-none, many-go, many-wrong}
+use Rattle.format.specs.Ends.{endOf, endAt, got-of, some-at, at-some, both-go, both-wrong, map-end, byte-got, byte-bad, byte-out, manyEnd, many-none}
+use Rattle.format.specs.Ends.{many-go, many-wrong}
 use Rattle.format.specs.Skips.{skipEnd, skips-end, skip-number}
 use Rattle.format.specs.Places.{numberEnd, number-end, number-inside, wordEnd, word-end, list-wrong, list-go}
 use Rattle.call_record.specs.Record.{Record, bit}
-use Rattle.call_record.specs.Formats.{argumentF, flagsB, ttlMax, ttl-fits, ttlF, count-fits, argumentsF, CursorArgs, afterFlags, CommandParts, commandF, start, headB, commandsF, FlagsCommands, RecordParts, recordF}
+use Rattle.call_record.specs.Formats.{argumentF, flagsB, ttlMax, ttl-fits, ttlF, count-fits, argumentsF, CursorArgs, afterFlags, CommandParts}
+use Rattle.call_record.specs.Formats.{commandF, start, headB, commandsF, FlagsCommands, RecordParts, recordF}
 use Rattle.call_record.specs.Check.{checkOf, checkDef}
 use Rattle.call_record.specs.declared.Checked.the-variants.{Fine, Wrong as Bad}
 use Rattle.call_record.specs.Paths.{argumentsEnd}
@@ -157,7 +159,8 @@ module _ (s : List ℕ) (at : ℕ) where
   tail-count o h k q = tail-on h k ∙ list-wrong 2 maxCommands count-fits s (at + 1) commandF o q
 
   -- on to the commands
-  pub tail-go : (e n : ℕ) → at < length s → getD s at 0 < 2 → numberEnd 2 maxCommands s (at + 1) ≡ At e → n ≡ read16 s (at + 1) → tailEnd s at ≡ commandsEnd s n e
+  pub tail-go : (e n : ℕ) → at < length s → getD s at 0 < 2 → numberEnd 2 maxCommands s (at + 1) ≡ At e → n ≡ read16 s (at + 1)
+      → tailEnd s at ≡ commandsEnd s n e
   unfolding commandsEnd
   tail-go e n h k q z = rw z (tail-on h k ∙ list-go 2 maxCommands count-fits s (at + 1) commandF e (omega arith) q)
 

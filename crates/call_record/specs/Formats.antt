@@ -16,7 +16,8 @@ use Rattle.format.specs.Both.{bothF}
 use Rattle.format.specs.Map.{From, mapF}
 use Rattle.format.specs.Numbers.{numberF}
 use Rattle.format.specs.Words.{wordF, listF, textF}
-use Rattle.call_record.specs.Record.{Argument, simple, cursor, Command, Record, bit, encArgument, encCommand, encRecord, ValidArgument, ValidCommand, ValidRecord}
+use Rattle.call_record.specs.Record.{Argument, simple, cursor, Command, Record, bit, encArgument, encCommand, encRecord, ValidArgument}
+use Rattle.call_record.specs.Record.{ValidCommand, ValidRecord}
 
 -- ---- arguments
 
@@ -134,7 +135,9 @@ are-flags f w =
     high g l k a b = omega arith
 
     low : (f : ℕ) → f < 16 → (f / 4 % 2 ≡ 1 → ⊥) → (f / 8 % 2 ≡ 1 → ⊥) → f ≤ 3
-    low f l a b = let c : f / 8 ≡ f / 4 / 2 = omega arith in byTest (leb f 3) (λ t. leb-true f 3 t) (λ t. absurd (high (f / 4) (let i = leb-false f 3 t in omega arith) (omega arith) a (λ z. b (rw c z))))
+    low f l a b =
+        let c : f / 8 ≡ f / 4 / 2 = omega arith in
+        byTest (leb f 3) (λ t. leb-true f 3 t) (λ t. absurd (high (f / 4) (let i = leb-false f 3 t in omega arith) (omega arith) a (λ z. b (rw c z))))
 
 -- the largest TTL: 0 where there is none
 abbrev pub ttlMax : Bool → ℕ

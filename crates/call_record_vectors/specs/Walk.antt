@@ -1,6 +1,6 @@
 -- Where the cursors of a checked record stand, step by step. Assumes nothing.
 use mathlib.Core.Path.{_≡_, sym, subst, _∙_}
-use Prim.Native.Nat.{_+_, _≤_, _<_}
+use Prim.Native.Nat.{_≤_, _<_}
 use native.Mathlib.Omega.{arith}
 use lib.ListN.{length}
 use Rattle.buffer.specs.Same.{Bytes}
@@ -22,7 +22,8 @@ use Rattle.cursor.specs.declared.NextCommand.{NextCommand}
 use Rattle.cursor.specs.declared.NextCommand.the-variants.{Command}
 
 -- behind a simple argument
-pub simple-here : (s : Bytes) (k : Args) (n : NextArg) (g : Range) (r : Args) → n ≡ argStep s k → n ≡ Simple g r → ArgsHere s k → RangeIn s g × ArgsHere s r × (r .left < k .left)
+pub simple-here : (s : Bytes) (k : Args) (n : NextArg) (g : Range) (r : Args) → n ≡ argStep s k → n ≡ Simple g r → ArgsHere s k
+    → RangeIn s g × ArgsHere s r × (r .left < k .left)
 unfolding ArgStep
 simple-here s k n g r e q w = let t : ArgStep s k (Simple g r) = subst (ArgStep s k) (sym e ∙ q) (arg-step s k w) in (t .1, t .2, let l = t .3 in omega arith)
 

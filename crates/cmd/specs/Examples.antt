@@ -104,7 +104,8 @@ pub idx-cursor-key : argIdx (simple (ascii "GET") ∷ cursor ∷ []) 1 ≡ none
 idx-cursor-key = refl
 
 -- equal joined bytes, across names
-pub shared : joined (simple (ascii "GET") ∷ simple (ascii "RANGE") ∷ simple (ascii "RANGE") ∷ []) ≡ joined (simple (ascii "GETRANGE") ∷ simple (ascii "RANGE") ∷ [])
+pub shared : joined (simple (ascii "GET") ∷ simple (ascii "RANGE") ∷ simple (ascii "RANGE") ∷ [])
+    ≡ joined (simple (ascii "GETRANGE") ∷ simple (ascii "RANGE") ∷ [])
 unfolding joined
 shared = refl
 

@@ -1,7 +1,7 @@
 -- What the writers have done, piece by piece. Assumes nothing.
 use mathlib.Core.Path.{_≡_, refl, sym, ap, ap₂, _∙_}
 use mathlib.Core.List.{List, [], _∷_, _++_, append-nil}
-use Prim.Native.Nat.{ℕ, zero, suc, _+_, _-_, _^_, _≤_, _<_}
+use Prim.Native.Nat.{ℕ, zero, suc, _+_, _^_, _≤_, _<_}
 use native.Mathlib.Omega.{arith}
 use native.Mathlib.Numerals.{add-one}
 use lib.Dec.{eqb}
@@ -57,7 +57,8 @@ blob-length t =
     ∙ omega arith
 
 -- a head, the text, CR LF
-pub blob-wrote : (d d₁ d₂ d₃ t : Bytes) (to n e f : ℕ) → n ≡ length t → to + length (blob t) ≤ length d → e ≡ to + length (head 36 n) → d₁ ≡ put d to (head 36 n)
+pub blob-wrote : (d d₁ d₂ d₃ t : Bytes) (to n e f : ℕ) → n ≡ length t → to + length (blob t) ≤ length d → e ≡ to + length (head 36 n)
+    → d₁ ≡ put d to (head 36 n)
     → f ≡ e + length t → d₂ ≡ put d₁ e t → d₃ ≡ put d₂ f (13 ∷ 10 ∷ []) → Wrote d to (blob t) d₃ (f + 2)
 unfolding blob
 blob-wrote d d₁ d₂ d₃ t to n e f z h p u₁ q u₂ u₃ =
@@ -102,7 +103,8 @@ bounded s cur at w h k =
     (λ t. let e = ap length (sent-cursor s cur at (eqb-false _ _ t)) in let m = count-max cur k in record { more = omega arith; small = omega arith })
 
 -- written under another name for the same bytes
-pub wrote-as : (d d₁ x y : Bytes) (to e : ℕ) → x ≡ y → (e ≡ to + length (blob y)) × (d₁ ≡ put d to (blob y)) → (e ≡ to + length (blob x)) × (d₁ ≡ put d to (blob x))
+pub wrote-as : (d d₁ x y : Bytes) (to e : ℕ) → x ≡ y → (e ≡ to + length (blob y)) × (d₁ ≡ put d to (blob y))
+    → (e ≡ to + length (blob x)) × (d₁ ≡ put d to (blob x))
 wrote-as d d₁ x y to e q w = rw q w
 
 -- room under another name for the same bytes
@@ -127,7 +129,8 @@ blobs-more s cur m n at q = rw (args-more s m n at q)
 
 -- how long they are
 pub blobs-length : (s : Bytes) (cur m n at : ℕ) → m ≡ n + 1
-    → length (blobsAt s cur m at) ≡ 5 + length (digits (length (sent cur (argAt s at)))) + length (sent cur (argAt s at)) + length (blobsAt s cur n (nextAt s at))
+    → length (blobsAt s cur m at) ≡ 5 + length (digits (length (sent cur (argAt s at)))) + length (sent cur (argAt s at)) + length
+    (blobsAt s cur n (nextAt s at))
 blobs-length s cur m n at q =
     ap length (blobs-more s cur m n at q)
     ∙ length-append (blob (sent cur (argAt s at))) (blobsAt s cur n (nextAt s at))
@@ -155,7 +158,8 @@ packed-length s cur n at =
     ap length (command-pieces s cur n at) ∙ length-append (head 42 n) (blobsAt s cur n at) ∙ ap (λ (k : ℕ). k + length (blobsAt s cur n at)) (head-length 42 n)
 
 -- one more argument written
-pub blobs-room : (d₀ all d s : Bytes) (cur m n at to e : ℕ) → m ≡ n + 1 → Copied d₀ to all d e (blobsAt s cur m at) → e + length (blob (sent cur (argAt s at))) ≤ length d
+pub blobs-room : (d₀ all d s : Bytes) (cur m n at to e : ℕ) → m ≡ n + 1 → Copied d₀ to all d e (blobsAt s cur m at)
+    → e + length (blob (sent cur (argAt s at))) ≤ length d
 blobs-room d₀ all d s cur m n at to e q w =
     copied-room d₀ all d (blob (sent cur (argAt s at))) (blobsAt s cur m at) (blobsAt s cur n (nextAt s at)) to e (blobs-more s cur m n at q) w
 
@@ -197,12 +201,9 @@ pub pttl-pieces : (key : Bytes) → packed (pttlTexts key) ≡ pttlStart ++ blob
 unfolding blobBytes blob digits
 pttl-pieces key = packed-pieces (pttlTexts key) ∙ ap (λ (x : Bytes). pttlStart ++ x) (append-nil (blob key))
 
--- how long it is
-pub pttl-length : (key : Bytes) → length (packed (pttlTexts key)) ≡ 14 + (5 + length (digits (length key)) + length key)
-pttl-length key = ap length (pttl-pieces key) ∙ length-append pttlStart (blob key) ∙ ap (λ (n : ℕ). 14 + n) (blob-length key)
-
 -- `CLIENT CACHING YES`
-pub caching-is : packed cachingTexts ≡ 42 ∷ 51 ∷ 13 ∷ 10 ∷ 36 ∷ 54 ∷ 13 ∷ 10 ∷ 67 ∷ 76 ∷ 73 ∷ 69 ∷ 78 ∷ 84 ∷ 13 ∷ 10 ∷ 36 ∷ 55 ∷ 13 ∷ 10 ∷ 67 ∷ 65 ∷ 67 ∷ 72 ∷ 73 ∷ 78 ∷ 71 ∷ 13 ∷ 10 ∷ 36 ∷ 51 ∷ 13 ∷ 10 ∷ 89 ∷ 69 ∷ 83 ∷ 13 ∷ 10 ∷ []
+pub caching-is : packed cachingTexts ≡ 42 ∷ 51 ∷ 13 ∷ 10 ∷ 36 ∷ 54 ∷ 13 ∷ 10 ∷ 67 ∷ 76 ∷ 73 ∷ 69 ∷ 78 ∷ 84 ∷ 13 ∷ 10 ∷ 36 ∷ 55 ∷ 13 ∷ 10 ∷ 67 ∷ 65 ∷ 67
+    ∷ 72 ∷ 73 ∷ 78 ∷ 71 ∷ 13 ∷ 10 ∷ 36 ∷ 51 ∷ 13 ∷ 10 ∷ 89 ∷ 69 ∷ 83 ∷ 13 ∷ 10 ∷ []
 unfolding blobBytes blob digits
 caching-is = packed-pieces cachingTexts
 

@@ -129,14 +129,6 @@ pub fn args_len(s: &[u8], k: Args, cursor: u64) -> usize
     total
 }
 
-// How long `PTTL` and a key of len bytes are when packed.
-pub fn pttl_len(len: usize) -> usize
-    requires { ⌜ len ≤ maxBytes ⌝ }
-    ensures { λ r. ⌜ ((key : Bytes) → length key ≡ len → r ≡ length (packed (pttlTexts key))) ⌝ }
-{
-    bulklen(len) + 14
-}
-
 // `PTTL` and a key.
 pub fn write_pttl(dst: &mut [u8], to: usize, key: &[u8]) -> usize
     requires { ⌜ to + length (packed (pttlTexts (now key))) ≤ length (now dst) ⌝ }

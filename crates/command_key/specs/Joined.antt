@@ -63,8 +63,10 @@ joined-cut s m n at k q w e =
 -- ---- copied
 
 -- room for the next argument's bytes
-pub cut-room : (d₀ all d s : Bytes) (m n at k to e : ℕ) → m ≡ n + 1 → ArgsIn s m at → k ≡ sizeAt s at → Copied d₀ to all d e (joinedAt s m at) → e + length (cutAt s at k) ≤ length d
-cut-room d₀ all d s m n at k to e q w p c = copied-room d₀ all d (cutAt s at k) (joinedAt s m at) (joinedAt s n (at + 5 + k)) to e (joined-cut s m n at k q w p) c
+pub cut-room : (d₀ all d s : Bytes) (m n at k to e : ℕ) → m ≡ n + 1 → ArgsIn s m at → k ≡ sizeAt s at → Copied d₀ to all d e (joinedAt s m at)
+    → e + length (cutAt s at k) ≤ length d
+cut-room d₀ all d s m n at k to e q w p c =
+    copied-room d₀ all d (cutAt s at k) (joinedAt s m at) (joinedAt s n (at + 5 + k)) to e (joined-cut s m n at k q w p) c
 
 -- ---- compared
 
@@ -90,7 +92,8 @@ module _ (s t : Bytes) (m n at d k : ℕ) (q : m ≡ n + 1) (w : ArgsIn s m at) 
 
   -- one piece, and the others
   piece : d + k ≤ length t
-      → same (drop d t) (joinedAt s m at) ≡ cond (same (part t d (length (cutAt s at k))) (cutAt s at k)) (same (drop (d + k) t) (joinedAt s n (at + 5 + k))) false
+      → same (drop d t) (joinedAt s m at) ≡ cond (same (part t d (length (cutAt s at k))) (cutAt s at k))
+      (same (drop (d + k) t) (joinedAt s n (at + 5 + k))) false
   unfolding part
   piece r =
       let x : Bytes = cutAt s at k in

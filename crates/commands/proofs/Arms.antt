@@ -8,7 +8,6 @@ use lib.ListN.{length}
 use borrow.Author.Tests.{ne-eqb}
 use Rattle.buffer.specs.Cases.{byTest}
 use Rattle.buffer.specs.Same.{Bytes, same, same-eq}
-use Rattle.buffer.specs.Ascii.{ascii}
 use Rattle.commands.specs.Names.{names, allAscii, readOnlyCacheable, member, isCacheable}
 use Rattle.commands.specs.Rows.{row, ofLength}
 
@@ -18,7 +17,8 @@ unfolding readOnlyCacheable allAscii names row ofLength
 open-names = tt
 
 -- an arm's row holds the names of n bytes, so it answers for a name of n bytes
-pub arm : (b rows : Bytes) (n : ℕ) (r : Bool) → ((xs : List Bytes) → rows ≡ row (ofLength (length b) xs) → r ≡ member b xs) → length b ≡ n → rows ≡ row (ofLength n readOnlyCacheable) → r ≡ isCacheable b
+pub arm : (b rows : Bytes) (n : ℕ) (r : Bool) → ((xs : List Bytes) → rows ≡ row (ofLength (length b) xs) → r ≡ member b xs) → length b ≡ n
+    → rows ≡ row (ofLength n readOnlyCacheable) → r ≡ isCacheable b
 unfolding isCacheable
 arm b rows n r f e w = f readOnlyCacheable (w ∙ ap (λ (k : ℕ). row (ofLength k readOnlyCacheable)) (sym e))
 

@@ -27,7 +27,8 @@ all-left b rows xs e = record {
 }
 
 -- the first name of a row, and what follows it
-first-of : (b rows : Bytes) (at : ℕ) (x : Bytes) (xs : List Bytes) → length x ≡ length b → drop at rows ≡ row (x ∷ xs) → (take (length b) (drop (at + 1) rows) ≡ x) × (drop (at + 1 + length b) rows ≡ row xs)
+first-of : (b rows : Bytes) (at : ℕ) (x : Bytes) (xs : List Bytes) → length x ≡ length b → drop at rows ≡ row (x ∷ xs)
+    → (take (length b) (drop (at + 1) rows) ≡ x) × (drop (at + 1 + length b) rows ≡ row xs)
 unfolding row
 first-of b rows at x xs l e =
     let d : drop (at + 1) rows ≡ x ++ row xs = sym (drop-drop 1 at rows) ∙ rw e in
@@ -39,7 +40,8 @@ unfolding row
 some-left b rows at h e = omega (arith, length-drop at rows, ap length e)
 
 -- the first name is b, so b is one of xs
-pub found : (b rows : Bytes) (at : ℕ) (xs : List Bytes) → Left b rows at xs → length b < length rows - at → same (take (length b) (drop (at + 1) rows)) b ≡ true → member b xs ≡ true
+pub found : (b rows : Bytes) (at : ℕ) (xs : List Bytes) → Left b rows at xs → length b < length rows - at
+    → same (take (length b) (drop (at + 1) rows)) b ≡ true → member b xs ≡ true
 unfolding member EachOf
 found b rows at xs f h s = f .answer ∙ go (f .rest) (f .each) (f .stands)
   where
@@ -48,7 +50,8 @@ found b rows at xs f h s = f .answer ∙ go (f .rest) (f .each) (f .stands)
     go (y ∷ ys) g e = let p = first-of b rows at y ys (g .0) e in let t : same y b ≡ true = rw (p .0) at s in rw t
 
 -- the first name is not b, so those after it answer
-pub passed : (b rows : Bytes) (at : ℕ) (xs : List Bytes) → Left b rows at xs → length b < length rows - at → same (take (length b) (drop (at + 1) rows)) b ≡ false → Left b rows (at + 1 + length b) xs
+pub passed : (b rows : Bytes) (at : ℕ) (xs : List Bytes) → Left b rows at xs → length b < length rows - at
+    → same (take (length b) (drop (at + 1) rows)) b ≡ false → Left b rows (at + 1 + length b) xs
 unfolding member EachOf
 passed b rows at xs f h s = go (f .rest) (f .each) (f .stands) (f .answer)
   where

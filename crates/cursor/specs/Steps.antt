@@ -13,7 +13,8 @@ use Rattle.buffer.specs.Same.{Bytes}
 use Rattle.buffer.specs.Part.{part}
 use Rattle.buffer.specs.Field.{read16}
 use Rattle.call_record.specs.Record.{Argument, simple, cursor}
-use Rattle.cursor.specs.At.{rangeBytes, RangeIn, sizeAt, nextAt, argAt, argsAt, argsEnd, ArgIn, ArgsIn, argsOf, ArgsHere, headAt, commandOf, commandNext, commandsAt, CommandsIn, commandsOf, CommandsHere}
+use Rattle.cursor.specs.At.{rangeBytes, RangeIn, sizeAt, nextAt, argAt, argsAt, argsEnd, ArgIn, ArgsIn, argsOf, ArgsHere, headAt, commandOf}
+use Rattle.cursor.specs.At.{commandNext, commandsAt, CommandsIn, commandsOf, CommandsHere}
 use Rattle.cursor.specs.declared.Args.{Args}
 use Rattle.cursor.specs.declared.Commands.{Commands}
 use Rattle.cursor.specs.declared.NextArg.{NextArg}

@@ -56,7 +56,8 @@ start dst₀ at v i e h = record {
 }
 
 -- a turn writes the last digit of w before those that stand there
-pub step : (dst₀ : List ℕ) (at v w i : ℕ) (dst : List ℕ) → Written dst₀ at v w i dst → at < i → Written dst₀ at v (w / 10) (i - 1) (set dst (i - 1) (48 + w % 10))
+pub step : (dst₀ : List ℕ) (at v w i : ℕ) (dst : List ℕ) → Written dst₀ at v w i dst → at < i
+    → Written dst₀ at v (w / 10) (i - 1) (set dst (i - 1) (48 + w % 10))
 step dst₀ at v w zero dst r h = absurd (omega arith)
 step dst₀ at v w (suc j) dst r h =
     let x : ℕ = 48 + w % 10 in

@@ -55,7 +55,8 @@ unfolding endedDef
 fin-ok lim s e v r h c = fin-within lim s e v h ∙ rw (crlf-law s e r c)
 
 -- what is written is read: digits of a number within the limit, then CR LF, are read as that number up to behind the LF
-pub num-law : (lim : ℕ) (s : List ℕ) (at n : ℕ) (r : List ℕ) → n ≤ lim → drop at s ≡ digits n ++ (13 ∷ 10 ∷ r) → numDef lim s at ≡ Val n (at + length (digits n) + 2)
+pub num-law : (lim : ℕ) (s : List ℕ) (at n : ℕ) (r : List ℕ) → n ≤ lim → drop at s ≡ digits n ++ (13 ∷ 10 ∷ r)
+    → numDef lim s at ≡ Val n (at + length (digits n) + 2)
 num-law lim s at zero r h e =
     let d = digits-one 0 (omega arith) in
     let e′ : drop at s ≡ 48 ∷ 13 ∷ 10 ∷ r = rw d at e in

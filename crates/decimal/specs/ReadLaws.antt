@@ -115,14 +115,17 @@ unfolding numDef
 num-out lim s at h = rw (getD-out s at h, drop-of-length-le s h)
 
 -- digits that begin with no `0` and end at i have the value v
-pub num-more : (lim : ℕ) (s : List ℕ) (at i v : ℕ) → ((getD s at 0 ≡ 48) → ⊥) → at < i → at + lead (drop at s) ≡ i → valAcc 0 (drop at s) ≡ v → numDef lim s at ≡ finDef lim s i v
+pub num-more : (lim : ℕ) (s : List ℕ) (at i v : ℕ) → ((getD s at 0 ≡ 48) → ⊥) → at < i → at + lead (drop at s) ≡ i → valAcc 0 (drop at s) ≡ v
+    → numDef lim s at ≡ finDef lim s i v
 unfolding numDef
 num-more lim s at i v h l e f = rw (ne-eqb (getD s at 0) 48 h, ne-eqb (lead (drop at s)) 0 (omega arith), e, f)
 
 -- digits whose value is above the limit: bad
 pub num-over : (lim : ℕ) (s : List ℕ) (at : ℕ) → ((getD s at 0 ≡ 48) → ⊥) → lim < valAcc 0 (drop at s) → numDef lim s at ≡ Bad
 unfolding numDef
-num-over lim s at h l = rw (ne-eqb (getD s at 0) 48 h, fin-over lim s (at + lead (drop at s)) (valAcc 0 (drop at s)) l) (byTest (eqb (lead (drop at s)) 0) (λ e. rw e) (λ e. rw e))
+num-over lim s at h l =
+    rw (ne-eqb (getD s at 0) 48 h, fin-over lim s (at + lead (drop at s)) (valAcc 0 (drop at s)) l)
+    (byTest (eqb (lead (drop at s)) 0) (λ e. rw e) (λ e. rw e))
 
 -- what a number that was read says: its value, its end, its limit and its CR LF
 pub record FinSays (lim : ℕ) (s : List ℕ) (e v n e′ : ℕ) : Type 0 where

@@ -46,7 +46,11 @@ module _ {A : Type 0} {B : Type 0} (f : Format A) (g : A → Format B) where
       let j = g a .sound u b w k in
       let z : (a, b) ≡ x = cc in
       let y : w ≡ v = cc in
-      rw (← z, ← y) (record { fine = (i .fine, j .fine); bytes = i .bytes ∙ ap (λ (l : List ℕ). f .enc a ++ l) (j .bytes) ∙ sym (append-assoc (f .enc a) (g a .enc b) w) })
+      rw (← z, ← y) (record {
+        fine = (i .fine, j .fine);
+        bytes = i .bytes ∙ ap (λ (l : List ℕ). f .enc a ++ l) (j .bytes)
+            ∙ sym (append-assoc (f .enc a) (g a .enc b) w);
+      })
   second-sound s a u e (bad o) k x v q = let z : _≡_ {A = ℕ} 0 1 = cc in absurd (omega arith)
   second-sound s a u e short k x v q = let z : _≡_ {A = ℕ} 0 1 = cc in absurd (omega arith)
 

@@ -147,8 +147,3 @@ module _ {A : Type 0} (f : Format A) (s : List ℕ) where
   many-wrong n m at o q k =
       let z : m ≡ suc n = q ∙ add-one n in
       rw z (map-end (bothF f (λ a. rep f n .form)) s at _ _ _ _ _ _ ∙ both-wrong f s at (λ a. rep f n .form) o k)
-
-  -- they lie inside
-  pub many-inside : (n at e : ℕ) → at ≤ length s → manyEnd n at ≡ At e → (at ≤ e) × (e ≤ length s)
-  unfolding manyEnd
-  many-inside n at e h k = let w = some-at (rep f n .form) s at h e k in let z = w .got .ends in (omega arith, w .got .inside)

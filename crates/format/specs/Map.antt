@@ -1,7 +1,7 @@
 -- The same bytes as other values: their format, with the laws. Assumes nothing.
 use mathlib.Core.Path.{_≡_, refl, sym, ap, _∙_}
 use mathlib.Core.List.{List, [], _++_}
-use Prim.Native.Nat.{ℕ, _+_}
+use Prim.Native.Nat.{ℕ}
 use native.Mathlib.Omega.{arith}
 use lib.ListN.{take}
 use Rattle.format.specs.Format.{Read, ok, bad, short, Begins, Stuck, Is, Format}

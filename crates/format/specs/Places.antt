@@ -1,7 +1,7 @@
 -- What code finds at a place: numbers, given bytes, texts and lists, one law for each way that it can go on. Assumes nothing.
 use mathlib.Core.Path.{_≡_, refl, sym, ap, _∙_}
 use mathlib.Core.List.{List, [], _∷_, _++_}
-use Prim.Native.Nat.{ℕ, suc, _+_, _-_, _^_, _≤_, _<_}
+use Prim.Native.Nat.{ℕ, suc, _+_, _^_, _≤_, _<_}
 use native.Mathlib.Omega.{arith}
 use native.Mathlib.Numerals.{add-one}
 use lib.Dec.{eqb}
@@ -45,7 +45,8 @@ number-out w v m s at q h =
 pub number-bad : (w v m : ℕ) (s : List ℕ) (at : ℕ) → v ≡ w + 1 → at < length s → m < getD s at 0 → numberEnd v m s at ≡ Wrong at
 number-bad w v m s at q h k =
     let z : v ≡ suc w = q ∙ add-one w in
-    rw z (byte-map w m s at ∙ both-wrong (digitF m) s at (λ b. upto w (restOf m b) .form) at (byte-bad (digitB m) 0 (digit-zero m) s at h (digit-no m (getD s at 0) k)))
+    rw z (byte-map w m s at ∙ both-wrong (digitF m) s at (λ b. upto w (restOf m b) .form) at
+    (byte-bad (digitB m) 0 (digit-zero m) s at h (digit-no m (getD s at 0) k)))
 
 -- the byte is fine
 pub number-go : (w v m : ℕ) (s : List ℕ) (at : ℕ) → v ≡ w + 1 → at < length s → getD s at 0 < 256 → getD s at 0 ≤ m

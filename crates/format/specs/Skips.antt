@@ -2,7 +2,7 @@
 use mathlib.Core.Path.{_≡_, refl, sym, ap, _∙_}
 use mathlib.Core.Bool.{Bool, true, false}
 use mathlib.Core.List.{List, []}
-use Prim.Native.Nat.{ℕ, zero, suc, _+_, _-_, _^_, _≤_, _<_}
+use Prim.Native.Nat.{ℕ, zero, suc, _+_, _^_, _≤_, _<_}
 use native.Mathlib.Omega.{arith}
 use native.Mathlib.Nat.{pow-succ', one-le-pow}
 use lib.Dec.{leb}
@@ -127,7 +127,8 @@ skip-rep : (n : ℕ) → Skips (rep anyF n .form) n
 unfolding rep
 skip-rep zero = skip-none []
 skip-rep (suc n) =
-    skip-map (bothF anyF (λ a. rep anyF n .form)) _ _ _ _ _ _ (suc n) (skip-both anyF (λ a. rep anyF n .form) 1 n (suc n) (omega arith) skip-any (λ a h. skip-rep n))
+    skip-map (bothF anyF (λ a. rep anyF n .form)) _ _ _ _ _ _ (suc n)
+    (skip-both anyF (λ a. rep anyF n .form) 1 n (suc n) (omega arith) skip-any (λ a h. skip-rep n))
 
 -- n bytes
 pub skip-bytes : (n : ℕ) → Skips (bytesF n) n

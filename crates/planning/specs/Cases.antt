@@ -17,7 +17,8 @@ use Rattle.call_record.specs.Record.{Argument, simple, cursor, Command}
 use Rattle.book.specs.Book.{Answer, hit, miss}
 use Rattle.book.specs.Calls.{Wanted}
 use Rattle.planning.specs.Ask.{ask, anyLate, ask-defs}
-use Rattle.planning.specs.Outcome.{value, values, filled, waiting, single, multiple, cached, notCached, notCacheable, CachingResult, item, ignored, servedBytes, wants, wanted, outcome, outcome-defs}
+use Rattle.planning.specs.Outcome.{value, values, filled, waiting, single, multiple, cached, notCached, notCacheable, CachingResult, item}
+use Rattle.planning.specs.Outcome.{ignored, servedBytes, wants, wanted, outcome, outcome-defs}
 
 -- ---- short names
 

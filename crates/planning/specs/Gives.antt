@@ -4,8 +4,10 @@ use mathlib.Core.List.{List, [], _∷_, _++_}
 use Prim.Native.Nat.{ℕ}
 use Rattle.buffer.specs.Same.{Bytes}
 use Rattle.book.specs.Calls.{Wanted}
-use Rattle.planning.specs.Outcome.{Place, filled, waiting, value, values, single, multiple, cached, notCached, notCacheable, CachingResult, item, ignored, missing}
-use Rattle.planning.specs.Plan.{Node, handOn, servedValue, allServed, missingKey, several, waitingPlace, endOfSeveral, valueNodes, placeNodes, servedNodes, missingNodes, nodesOf, nodes}
+use Rattle.planning.specs.Outcome.{Place, filled, waiting, value, values, single, multiple, cached, notCached, notCacheable, CachingResult}
+use Rattle.planning.specs.Outcome.{item, ignored, missing}
+use Rattle.planning.specs.Plan.{Node, handOn, servedValue, allServed, missingKey, several, waitingPlace, endOfSeveral, valueNodes, placeNodes}
+use Rattle.planning.specs.Plan.{servedNodes, missingNodes, nodesOf, nodes}
 
 -- a missing key with its command key, and its client expiry
 pub record Missing : Type 0 where

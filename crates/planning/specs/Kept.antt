@@ -16,12 +16,15 @@ use Rattle.commands.specs.MultiKey.{multiKey}
 use Rattle.commands.specs.declared.MultiKey.{MultiKey}
 use Rattle.commands.specs.declared.MultiKey.the-variants.{None, Mget, JsonMget}
 use Rattle.resp3.specs.Value.{IsValue}
-use Rattle.call_record.specs.Record.{Argument, simple, cursor, Command, Record, transaction, ValidArgument, ValidCommand, ValidRecord, encArgument, encCommand, encRecord}
+use Rattle.call_record.specs.Record.{Argument, simple, cursor, Command, Record, transaction, ValidArgument, ValidCommand, ValidRecord, encArgument}
+use Rattle.call_record.specs.Record.{encCommand, encRecord}
 use Rattle.book.specs.Book.{Answer, hit, miss, stored, noSpace, invalidated, number}
 use Rattle.book.specs.Calls.{Wanted}
 use borrow.Author.Tests.{leb-false}
-use Rattle.planning.specs.Ask.{Reach, skipped, stopped, named, pastEnd, reach, clientExpiry, anyLate, simples, afterName, butLast, lastOnly, askOne, askBy, askFrom, severalKeys, ask}
-use Rattle.planning.specs.Outcome.{Place, filled, waiting, item, joined, wholeKey, partKeys, wants, placeBy, place, places, servedValues, singleItem, multipleItem, missing, outcome, outcomes}
+use Rattle.planning.specs.Ask.{Reach, skipped, stopped, named, pastEnd, reach, clientExpiry, anyLate, simples, afterName, butLast, lastOnly}
+use Rattle.planning.specs.Ask.{askOne, askBy, askFrom, severalKeys, ask}
+use Rattle.planning.specs.Outcome.{Place, filled, waiting, item, joined, wholeKey, partKeys, wants, placeBy, place, places, servedValues}
+use Rattle.planning.specs.Outcome.{singleItem, multipleItem, missing, outcome, outcomes}
 use Rattle.planning.specs.Plan.{endOfSeveral, valueNodes, placeNodes, servedNodes, missingNodes, nodesOf, nodes, planOf}
 use Rattle.planning.specs.Planning.{plannedBy, plannedFrom}
 use Rattle.planning.specs.Rules.{GoodWanted, GoodNode, GoodPlan, IsPlan}
@@ -180,7 +183,8 @@ module _ (c : Command) (said : List Answer) (fine : All GoodAnswer said) (x : �
       byTest (isCacheable n) (λ e. rw e (one-nodes (c .args) h b)) (λ e. rw e (unfold outcome in unfold nodesOf in unfold GoodNode in (tt, tt)))
 
 -- by how far the command gets
-reached-nodes : (c : Command) (said : List Answer) (x : ℕ) (q : Reach) → pastEnd q x ≡ false → All GoodAnswer said → ValidCommand c → length (encCommand c) ≤ maxBytes
+reached-nodes : (c : Command) (said : List Answer) (x : ℕ) (q : Reach) → pastEnd q x ≡ false → All GoodAnswer said → ValidCommand c
+    → length (encCommand c) ≤ maxBytes
     → All GoodNode (nodesOf (outcome c (askFrom q (c .args) x) said))
 unfolding askFrom pastEnd outcome nodesOf GoodNode
 reached-nodes c said x skipped e h v b = (tt, tt)

@@ -74,4 +74,9 @@ module _ (p : Setup) (bk : Book) (s : Settings) (t e : ℕ) where
     pub plans : anyLate s t (r .commands) ≡ false → short s t r planRoom sendRoom said ≡ false
         → Does (done (plannedBy s r (outcomesOn (r .commands)))) (afterAll p (ons (lookups t e (wanted s t (r .commands)))) bk)
     unfolding planOn planAnswer callOf call-defs plannedFrom
-    plans l h = record { answers = rw (planned, l, h) (ap (λ (rs : List CachingResult). done (plannedBy s r rs)) (each-alone (r .commands))); leaves = rw (l, planned, h) }
+    plans l h =
+        record {
+          answers = rw (planned, l, h) (ap (λ (rs : List CachingResult). done (plannedBy s r rs)) (each-alone (r .commands)));
+          leaves = rw
+              (l, planned, h);
+        }

@@ -10,7 +10,8 @@ use Rattle.buffer.specs.Field.{le32, le64}
 use Rattle.format.specs.Runs.{encAll}
 use Rattle.resp3.specs.Value.{null, encode}
 use Rattle.book.specs.Calls.{Wanted}
-use Rattle.planning.specs.Outcome.{Place, filled, waiting, Served, value, values, CacheableCommand, single, multiple, cached, notCached, notCacheable, CachingResult, item, ignored}
+use Rattle.planning.specs.Outcome.{Place, filled, waiting, Served, value, values, CacheableCommand, single, multiple, cached, notCached}
+use Rattle.planning.specs.Outcome.{notCacheable, CachingResult, item, ignored}
 
 -- ---- The nodes, kinds 0 to 6
 

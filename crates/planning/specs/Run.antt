@@ -67,4 +67,5 @@ sent-run s r rs =
         → Got (sentBytes ps) [] (commandValues ps) (itemsEnd maxDepth (sentBytes ps) (length ps) 0) (valuesOf maxDepth (sentBytes ps) (length ps) 0)
     read-back ps =
         let d = commands-deep ps in
-        rw (← commands-count) (items-law maxDepth (sentBytes ps) (commandValues ps) (commands-valid ps) (omega arith) 0 [] (omega arith) (unfold sentBytes in refl))
+        rw (← commands-count)
+        (items-law maxDepth (sentBytes ps) (commandValues ps) (commands-valid ps) (omega arith) 0 [] (omega arith) (unfold sentBytes in refl))

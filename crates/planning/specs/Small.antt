@@ -1,14 +1,13 @@
 -- Lengths: the keys that a valid command asks for, and its command keys, are as short as a plan's rules want. Assumes nothing.
 use mathlib.Core.Path.{_≡_, refl}
 use mathlib.Core.List.{List, [], _∷_, _++_}
-use Prim.Native.Nat.{_+_, _≤_}
+use Prim.Native.Nat.{_≤_}
 use native.Mathlib.Omega.{arith}
 use lib.ListN.{length, length-append}
 use Rattle.buffer.specs.Same.{Bytes}
 use Rattle.buffer.specs.Field.{le32}
 use Rattle.config.specs.Limits.{maxArgument}
 use Rattle.format.specs.Runs.{encAll, All}
-use Rattle.buffer.specs.Ascii.{ascii}
 use Rattle.commands.specs.MultiKey.{multiKey, singleName}
 use Rattle.commands.specs.declared.MultiKey.{MultiKey}
 use Rattle.commands.specs.declared.MultiKey.the-variants.{None, Mget, JsonMget}

@@ -3,7 +3,7 @@ use mathlib.Core.Path.{_≡_, refl, ap, _∙_}
 use mathlib.Core.Bool.{false}
 use mathlib.Core.Option.{some}
 use mathlib.Core.List.{[], _∷_, _++_}
-use Prim.Native.Nat.{ℕ, _+_, _-_, _≤_}
+use Prim.Native.Nat.{ℕ, _-_, _≤_}
 use native.Mathlib.Omega.{arith}
 use lib.Dec.{eqb}
 use lib.ListN.{length, getD, take, drop, length-append, length-drop}
@@ -13,7 +13,8 @@ use Rattle.buffer.specs.Same.{Bytes}
 use Rattle.config.specs.Limits.{maxDepth}
 use Rattle.resp3.specs.declared.Kind.the-variants.{Array, Push}
 use Rattle.resp3.specs.Kinds.{byteOf}
-use Rattle.resp3.specs.Value.{Value, Values, blobString, simpleString, simpleError, number, null, double, boolean, blobError, verbatimString, bigNumber, array, map, set, attribute, push, none, more, count, deepest, Valids, counted, encs, encode, Means}
+use Rattle.resp3.specs.Value.{Value, Values, blobString, simpleString, simpleError, number, null, double, boolean, blobError, verbatimString}
+use Rattle.resp3.specs.Value.{bigNumber, array, map, set, attribute, push, none, more, count, deepest, Valids, counted, encs, encode, Means}
 use Rattle.resp3.specs.Ends.{lengthAt}
 use Rattle.resp3.specs.Rows.{enc-is, longer, room}
 use Rattle.resp3.specs.Complete.{read-law, length-reads}
@@ -24,7 +25,8 @@ use Rattle.resp3_element.specs.Places.{standAt, listAt}
 use Rattle.resp3_element.specs.Law.{bytes-are, head-law}
 
 -- before values that stand at at and end with the slice
-pub stand-law : (s : Bytes) (at n : ℕ) (vs : Values) → n ≡ count vs → at ≤ length s → drop at s ≡ encs vs [] → Valids vs → deepest vs ≤ maxDepth → Stands s (standAt s at n) vs
+pub stand-law : (s : Bytes) (at n : ℕ) (vs : Values) → n ≡ count vs → at ≤ length s → drop at s ≡ encs vs [] → Valids vs → deepest vs ≤ maxDepth
+    → Stands s (standAt s at n) vs
 unfolding standAt
 stand-law s at n none e i h ok l =
     rw (eq-eqb n 0 e)
@@ -44,7 +46,8 @@ elementOf s c = take (c .end - c .at) (drop (c .at) s)
 pub element-law : (s : Bytes) (c : Cursor) (v : Value) (vs : Values) → Stands s c (more v vs) → Means (elementOf s c) v
 element-law s c v vs w =
     let h : drop (c .at) s ≡ encode v ++ encs vs [] = w .here ∙ enc-is v (encs vs []) in
-    let n : length (encode v) ≡ c .end - c .at = omega (arith, w .inside .order, w .inside .within, simp (length-append, length-drop) at (ap length h), simp length-drop at (ap length (w .after))) in
+    let n : length (encode v) ≡ c .end - c .at = omega
+    (arith, w .inside .order, w .inside .within, simp (length-append, length-drop) at (ap length h), simp length-drop at (ap length (w .after))) in
     record { ok = w .ok .0; deep = omega (arith, w .deep); is = ap (take (c .end - c .at)) h ∙ take-at (encode v) (encs vs []) (c .end - c .at) n }
 
 -- the next cursor stands before the others

@@ -2,11 +2,11 @@
 use mathlib.Core.Path.{_≡_, refl, ap, _∙_}
 use mathlib.Core.Bool.{true, false}
 use mathlib.Core.List.{[], _++_}
-use Prim.Native.Nat.{ℕ, suc, _+_, _-_, _≤_}
+use Prim.Native.Nat.{ℕ, suc, _-_, _≤_}
 use native.Mathlib.Omega.{arith}
 use native.Mathlib.Nat.{add-sub-cancel-left}
 use lib.Dec.{eqb, leb}
-use lib.ListN.{length, getD, take, drop, length-append, length-drop}
+use lib.ListN.{length, getD, drop, length-append, length-drop}
 use lib.IntN.{ℤ, pos, negsuc}
 use lib.Seq.{take-at}
 use borrow.Author.Tests.{eq-eqb, ne-eqb, le-leb, leb-true}
@@ -18,7 +18,8 @@ use Rattle.decimal.specs.declared.Num.{Num}
 use Rattle.decimal.specs.declared.Num.the-variants.{Val, Bad as BadNum}
 use Rattle.resp3.specs.Kinds.{byteOf, kindOf}
 use Rattle.resp3.specs.KindLaws.{kind-byte}
-use Rattle.resp3.specs.Value.{Value, blobString, simpleString, simpleError, number, null, double, boolean, blobError, verbatimString, bigNumber, array, map, set, attribute, push, Fits64, crlf, enc, encode, Means}
+use Rattle.resp3.specs.Value.{Value, blobString, simpleString, simpleError, number, null, double, boolean, blobError, verbatimString, bigNumber}
+use Rattle.resp3.specs.Value.{array, map, set, attribute, push, Fits64, crlf, enc, encode, Means}
 use Rattle.resp3.specs.declared.Kind.{Kind}
 use Rattle.resp3.specs.declared.Kind.the-variants.{BlobString, SimpleError, BlobError, Number}
 use Rattle.resp3.specs.Ends.{lengthAt}

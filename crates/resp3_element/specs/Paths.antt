@@ -69,7 +69,8 @@ unfolding standAt
 stand-none s at left h = rw (eq-eqb left 0 h)
 
 -- some
-pub stand-some : (s : Bytes) (at left : ℕ) (x : End) → ((left ≡ 0) → ⊥) → valueEnd maxDepth s at ≡ x → standAt s at left ≡ record { at = at; end = endElse at x; left = left }
+pub stand-some : (s : Bytes) (at left : ℕ) (x : End) → ((left ≡ 0) → ⊥) → valueEnd maxDepth s at ≡ x
+    → standAt s at left ≡ record { at = at; end = endElse at x; left = left }
 unfolding standAt
 stand-some s at left x h e = rw (ne-eqb left 0 h, e)
 

@@ -9,7 +9,8 @@ use Rattle.buffer.specs.Same.{Bytes}
 use Rattle.config.specs.Limits.{maxBytes, maxDepth}
 use Rattle.decimal.specs.Read.{lead, valAcc}
 use Rattle.resp3.specs.declared.Kind.{Kind}
-use Rattle.resp3.specs.declared.Kind.the-variants.{BlobString, SimpleString, SimpleError, Number, Null, Double, Boolean, BlobError, VerbatimString, BigNumber, Array, Map, Set, Attribute, Push, Unknown}
+use Rattle.resp3.specs.declared.Kind.the-variants.{BlobString, SimpleString, SimpleError, Number, Null, Double, Boolean, BlobError, VerbatimString}
+use Rattle.resp3.specs.declared.Kind.the-variants.{BigNumber, Array, Map, Set, Attribute, Push, Unknown}
 use Rattle.resp3.specs.Kinds.{kindOf}
 use Rattle.resp3.specs.Ends.{plain}
 use Rattle.resp3_prefix.specs.declared.Begun.{Begun}

@@ -9,7 +9,9 @@ use Rattle.resp3.specs.Kinds.{kindOf}
 use Rattle.resp3.specs.Value.{plainB}
 use Rattle.resp3.specs.Ends.{plain}
 use Rattle.resp3_prefix.specs.declared.Begun.the-variants.{Ends, Lacks, Never}
-use Rattle.resp3_prefix.specs.Begun.{lacking, lackingRow, lackingBelow, crlfBegun, countEnd, countBegun, lineBegun, blobBegun, verbatimBody, verbatimDigits, verbatimBegun, integerBegun, booleanBegun, bodyBegun, headBegun, iter, valueBegun, rowBegun, firstValue}
+use Rattle.resp3_prefix.specs.Begun.{lacking, lackingRow, lackingBelow, crlfBegun, countEnd, countBegun, lineBegun, blobBegun, verbatimBody}
+use Rattle.resp3_prefix.specs.Begun.{verbatimDigits, verbatimBegun, integerBegun, booleanBegun, bodyBegun, headBegun, iter, valueBegun}
+use Rattle.resp3_prefix.specs.Begun.{rowBegun, firstValue}
 
 -- one name that opens the reader
 unfoldable case-defs : Unit {0}

@@ -49,7 +49,8 @@ module _ (lim : ℕ) (s : Bytes) (p i v : ℕ) (o : p ≤ i) (j : i ≤ length s
       let n : length s + 1 ≡ i + 1 = omega arith in
       let a : getD (s ++ w) i 0 ≡ 13 = getD-at s 13 (10 ∷ []) 0 i (omega arith) in
       let b : getD (s ++ w) (i + 1) 0 ≡ 10 =
-      ap (λ (z : Bytes). getD z (i + 1) 0) (sym (append-assoc s (13 ∷ []) (10 ∷ []))) ∙ getD-at (s ++ (13 ∷ [])) 10 [] 0 (i + 1) (length-append s (13 ∷ []) ∙ n) in
+      ap (λ (z : Bytes). getD z (i + 1) 0) (sym (append-assoc s (13 ∷ []) (10 ∷ [])))
+      ∙ getD-at (s ++ (13 ∷ [])) 10 [] 0 (i + 1) (length-append s (13 ∷ []) ∙ n) in
       same-front (drop p s) (digits v) w (told w (stops-cr (10 ∷ [])) a b (omega arith))
 
   at-ended : i < length s → getD s i 0 ≡ 13 → length s ≤ i + 1 → drop p s ≡ digits v ++ (13 ∷ [])

@@ -75,7 +75,8 @@ digits-lead m z h k =
 -- ---- what is written is read, as far as it stands there
 
 -- a number's digits before something that begins with none
-pub count-here : (lim : ℕ) (s : Bytes) (p m : ℕ) (z : Bytes) → m ≤ lim → drop p s ≡ digits m ++ z → Stops z → countBegun lim s p ≡ countEnd s (p + length (digits m)) m
+pub count-here : (lim : ℕ) (s : Bytes) (p m : ℕ) (z : Bytes) → m ≤ lim → drop p s ≡ digits m ++ z → Stops z
+    → countBegun lim s p ≡ countEnd s (p + length (digits m)) m
 count-here lim s p zero z l e k =
     let d = digits-one 0 (omega arith) in
     let f : getD s p 0 ≡ 48 = first s p 48 z (e ∙ ap (λ (x : Bytes). x ++ z) d) in
@@ -129,7 +130,8 @@ digits-part =
     deeper n t m m′ h e (all i j) = some (n / 10) i (omega arith) (omega arith) (omega (arith, ap length e, length-append m′ ((48 + n % 10) ∷ [])))
     deeper n t m m′ h e (some k i a b c) = some k i a (omega arith) (omega (arith, ap length e, length-append m′ ((48 + n % 10) ∷ [])))
 
-    go : (n : ℕ) → 10 ≤ n → ((t m : Bytes) → digits (n / 10) ≡ t ++ m → 0 < length t → Part (n / 10) t m) → (t m : Bytes) → digits n ≡ t ++ m → 0 < length t → Part n t m
+    go : (n : ℕ) → 10 ≤ n → ((t m : Bytes) → digits (n / 10) ≡ t ++ m → 0 < length t → Part (n / 10) t m) → (t m : Bytes) → digits n ≡ t ++ m
+        → 0 < length t → Part n t m
     go n h ih t m e l =
         let D : Bytes = digits (n / 10) in
         let last : Bytes = (48 + n % 10) ∷ [] in

@@ -18,7 +18,8 @@ use Rattle.decimal.specs.NumLaw.{head-ge}
 use Rattle.resp3.specs.Value.{crlf, counted, framed, integer, plainB, oneLine, Fits64}
 use Rattle.resp3.specs.Ends.{plain}
 use Rattle.resp3_prefix.specs.declared.Begun.{Begun}
-use Rattle.resp3_prefix.specs.Begun.{crlfBegun, countBegun, lineBegun, blobBegun, verbatimBody, verbatimDigits, verbatimBegun, digitsOf, minusOf, integerBegun, booleanBegun}
+use Rattle.resp3_prefix.specs.Begun.{crlfBegun, countBegun, lineBegun, blobBegun, verbatimBody, verbatimDigits, verbatimBegun, digitsOf}
+use Rattle.resp3_prefix.specs.Begun.{minusOf, integerBegun, booleanBegun}
 use Rattle.resp3_prefix.specs.Paths as paths
 use Rattle.resp3_prefix.specs.Split.{cut}
 use Rattle.resp3_prefix.specs.Counts.{Stands, whole, nothing, digits-all, digits-some, ended, stands}
@@ -95,7 +96,8 @@ module _ (s : Bytes) (p : ℕ) (l : p ≤ length s) (q : Bytes) (o : 0 < length 
           let w : drop (e + length f) s ≡ y ∷ m = after s e f (y ∷ m) b in
           ap (λ (i : ℕ). getD s (e + i) 0) (sym k) ∙ first s (e + length f) y m w ∙ u
 
-  pub verbatim-early : (f xs : Bytes) → length f ≡ 3 → length (f ++ (58 ∷ xs)) ≤ maxBytes → framed (f ++ (58 ∷ xs)) [] ≡ drop p s ++ q → Early (verbatimBegun s p) (length q)
+  pub verbatim-early : (f xs : Bytes) → length f ≡ 3 → length (f ++ (58 ∷ xs)) ≤ maxBytes → framed (f ++ (58 ∷ xs)) [] ≡ drop p s ++ q
+      → Early (verbatimBegun s p) (length q)
   verbatim-early f xs k m e = go (stands maxBytes s p (length x) (x ++ crlf []) q m e l)
     where
       x : Bytes
@@ -122,7 +124,8 @@ module _ (s : Bytes) (p : ℕ) (l : p ≤ length s) (q : Bytes) (o : 0 < length 
       go (whole e c b g) = early-as (paths.verbatim-is s p _ c) (body e b g)
       go (nothing c g) =
           lacks 9 (paths.verbatim-is s p _ c)
-          (let k = count-pos (length x) in let h = four in omega (arith, ap length g, length-append (digits (length x)) (crlf (x ++ crlf [])), length-append x (crlf [])))
+          (let k = count-pos (length x) in
+          let h = four in omega (arith, ap length g, length-append (digits (length x)) (crlf (x ++ crlf [])), length-append x (crlf [])))
       go (digits-all c g) = lacks (length x + 4) (paths.verbatim-is s p _ c ∙ paths.digits-four (length x) four) (omega (arith, length-append x (crlf [])))
       go (digits-some m a b c g) = early-as (paths.verbatim-is s p _ c) (some m a b g)
       go (ended c g) = lacks (length x + 3) (paths.verbatim-is s p _ c ∙ paths.ended-four s (length x) four) (omega (arith, length-append x (crlf [])))

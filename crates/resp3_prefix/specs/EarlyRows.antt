@@ -12,7 +12,9 @@ use Rattle.buffer.specs.Same.{Bytes}
 use Rattle.config.specs.Limits.{maxBytes}
 use Rattle.decimal.specs.Digits.{digits}
 use Rattle.decimal.specs.DigitLaws.{count-pos}
-use Rattle.resp3.specs.Value.{Value, Values, blobString, simpleString, simpleError, number, null, double, boolean, blobError, verbatimString, bigNumber, array, map, set, attribute, push, none, more, count, deepest, depth, Valid, Valids, crlf, counted, integer, enc, encs}
+use Rattle.resp3.specs.Value.{Value, Values, blobString, simpleString, simpleError, number, null, double, boolean, blobError, verbatimString}
+use Rattle.resp3.specs.Value.{bigNumber, array, map, set, attribute, push, none, more, count, deepest, depth, Valid, Valids, crlf, counted, integer}
+use Rattle.resp3.specs.Value.{enc, encs}
 use Rattle.resp3.specs.Rows.{longer, room, roomPairs}
 use Rattle.resp3.specs.Complete.{read-law}
 use Rattle.resp3_prefix.specs.declared.Begun.the-variants.{Ends, Lacks}
@@ -74,7 +76,8 @@ deep-some none d l h = absurd (omega arith)
 deep-some (more v vs) d l h = omega arith
 
 module _ (d : ℕ) (s : Bytes) (small : length s ≤ maxBytes)
-    (one : (v : Value) → Valid v → depth v ≤ d → length (enc v []) ≤ maxBytes → (at : ℕ) → at ≤ length s → (q : Bytes) → 0 < length q → enc v [] ≡ drop at s ++ q
+    (one : (v : Value) → Valid v → depth v ≤ d → length (enc v []) ≤ maxBytes → (at : ℕ) → at ≤ length s → (q : Bytes) → 0 < length q
+    → enc v [] ≡ drop at s ++ q
     → Early (valueBegun d s at) (length q)) where
   -- the first value of a row stands there whole
   first-whole : (v : Value) (ws : Values) (at : ℕ) (m : Bytes) → Valid v → depth v ≤ d → drop at s ≡ enc v [] ++ m
@@ -85,7 +88,8 @@ module _ (d : ℕ) (s : Bytes) (small : length s ≤ maxBytes)
       let j : suc (count ws) - 1 ≡ count ws = omega arith in
       (z .e, z .within, z .rest, paths.row-one d s (suc (count ws)) at (Ends (z .e)) (omega arith) y ∙ ap (λ (i : ℕ). rowBegun d s i (z .e)) j)
 
-  rows-early : (vs : Values) → Valids vs → deepest vs ≤ d → length (encs vs []) ≤ maxBytes → (at : ℕ) → at ≤ length s → (q : Bytes) → 0 < length q → encs vs [] ≡ drop at s ++ q
+  rows-early : (vs : Values) → Valids vs → deepest vs ≤ d → length (encs vs []) ≤ maxBytes → (at : ℕ) → at ≤ length s → (q : Bytes) → 0 < length q
+      → encs vs [] ≡ drop at s ++ q
       → Early (rowBegun d s (count vs) at) (length q)
   rows-early none ok deep m at l q o e = absurd (omega (arith, ap length e, length-append (drop at s) q))
   rows-early (more v ws) ok deep m at l q o e = go (λ n a b i j k. rows-early ws (ok .1) (omega arith) n a b i j k)
@@ -125,7 +129,8 @@ module _ (d : ℕ) (s : Bytes) (small : length s ≤ maxBytes)
           (row-early (y .k) (count ws) (length q) (omega arith) (omega arith)))
 
   -- rows behind their count
-  pub counted-early : (a b n : ℕ) (ws : Values) → count ws ≡ a * n + b → ((m : ℕ) → 10 * m ≤ n → a * m + b ≤ a * n + b) → b ≤ a * n + b → n ≤ a * n + b → Valids ws → deepest ws ≤ d
+  pub counted-early : (a b n : ℕ) (ws : Values) → count ws ≡ a * n + b → ((m : ℕ) → 10 * m ≤ n → a * m + b ≤ a * n + b) → b ≤ a * n + b → n ≤ a * n + b
+      → Valids ws → deepest ws ≤ d
       → length (counted n (encs ws [])) ≤ maxBytes → (p : ℕ) → p ≤ length s → (q : Bytes) → 0 < length q → counted n (encs ws []) ≡ drop p s ++ q
       → Early (headThen (rowOf d a b (countBegun maxBytes s p)) (λ n e. rowBegun d s n e)) (length q)
   counted-early a b n ws c mono least few ok deep m p l q o e = go (stands maxBytes s p n (encs ws []) q small-count e l)

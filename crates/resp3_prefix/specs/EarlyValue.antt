@@ -7,10 +7,13 @@ use lib.ListN.{length, getD, drop, length-append}
 use Rattle.buffer.specs.Same.{Bytes}
 use Rattle.config.specs.Limits.{maxBytes}
 use Rattle.resp3.specs.declared.Kind.{Kind}
-use Rattle.resp3.specs.declared.Kind.the-variants.{BlobString, SimpleString, SimpleError, Number, Null, Double, Boolean, BlobError, VerbatimString, BigNumber, Array, Map, Set, Attribute, Push}
+use Rattle.resp3.specs.declared.Kind.the-variants.{BlobString, SimpleString, SimpleError, Number, Null, Double, Boolean, BlobError, VerbatimString}
+use Rattle.resp3.specs.declared.Kind.the-variants.{BigNumber, Array, Map, Set, Attribute, Push}
 use Rattle.resp3.specs.Kinds.{byteOf, kindOf}
 use Rattle.resp3.specs.KindLaws.{kind-byte}
-use Rattle.resp3.specs.Value.{Value, Values, Pairs, blobString, simpleString, simpleError, number, null, double, boolean, blobError, verbatimString, bigNumber, array, map, set, attribute, push, none, more, count, countPairs, below, deepest, deepestPairs, depth, Valid, Valids, ValidPairs, counted, enc, encs, encPairs}
+use Rattle.resp3.specs.Value.{Value, Values, Pairs, blobString, simpleString, simpleError, number, null, double, boolean, blobError, verbatimString}
+use Rattle.resp3.specs.Value.{bigNumber, array, map, set, attribute, push, none, more, count, countPairs, below, deepest, deepestPairs, depth, Valid}
+use Rattle.resp3.specs.Value.{Valids, ValidPairs, counted, enc, encs, encPairs}
 use Rattle.resp3.specs.Rows.{flat, flat-enc, flat-count, flat-valid, flat-deep}
 use Rattle.resp3_prefix.specs.Begun.{countBegun, rowOf, bodyBegun, headThen, valueBegun, rowBegun}
 use Rattle.resp3_prefix.specs.Paths as paths
@@ -60,7 +63,8 @@ module _ (d : ℕ) (s : Bytes) (small : length s ≤ maxBytes) (one : ValueEarly
   value-step : (v : Value) → Valid v → below v ≤ d → length (enc v []) ≤ maxBytes → enc v [] ≡ drop at s ++ q → Early (valueBegun (suc d) s at) (length q)
   unfolding bodyBegun
   value-step (blobString x) ok dp m e =
-      at-kind (blobString x) BlobString _ refl e (λ i g. early-as (alone-is d s _) (blob-early s (at + 1) i q o x (let k = simp length-append at m in omega arith) g))
+      at-kind (blobString x) BlobString _ refl e
+      (λ i g. early-as (alone-is d s _) (blob-early s (at + 1) i q o x (let k = simp length-append at m in omega arith) g))
   value-step (simpleString x) ok dp m e = at-kind (simpleString x) SimpleString _ refl e (λ i g. early-as (alone-is d s _) (line-early s (at + 1) i q o x ok g))
   value-step (simpleError x) ok dp m e = at-kind (simpleError x) SimpleError _ refl e (λ i g. early-as (alone-is d s _) (line-early s (at + 1) i q o x ok g))
   value-step (number z) ok dp m e = at-kind (number z) Number _ refl e (λ i g. early-as (alone-is d s _) (integer-early s (at + 1) i q o z ok g))
@@ -68,10 +72,12 @@ module _ (d : ℕ) (s : Bytes) (small : length s ≤ maxBytes) (one : ValueEarly
   value-step (double x) ok dp m e = at-kind (double x) Double _ refl e (λ i g. early-as (alone-is d s _) (line-early s (at + 1) i q o x ok g))
   value-step (boolean b) ok dp m e = at-kind (boolean b) Boolean _ refl e (λ i g. early-as (alone-is d s _) (boolean-early s (at + 1) i q o b g))
   value-step (blobError x) ok dp m e =
-      at-kind (blobError x) BlobError _ refl e (λ i g. early-as (alone-is d s _) (blob-early s (at + 1) i q o x (let k = simp length-append at m in omega arith) g))
+      at-kind (blobError x) BlobError _ refl e
+      (λ i g. early-as (alone-is d s _) (blob-early s (at + 1) i q o x (let k = simp length-append at m in omega arith) g))
   value-step (verbatimString f x) ok dp m e =
       at-kind (verbatimString f x) VerbatimString _ refl e
-      (λ i g. early-as (alone-is d s _) (verbatim-early s (at + 1) i q o f x ok (let k = simp length-append at m in let j = length-append f (58 ∷ x) in omega arith) g))
+      (λ i g. early-as (alone-is d s _)
+      (verbatim-early s (at + 1) i q o f x ok (let k = simp length-append at m in let j = length-append f (58 ∷ x) in omega arith) g))
   value-step (bigNumber x) ok dp m e = at-kind (bigNumber x) BigNumber _ refl e (λ i g. early-as (alone-is d s _) (line-early s (at + 1) i q o x ok g))
   value-step (array vs) ok dp m e =
       at-kind (array vs) Array _ refl e
@@ -81,7 +87,8 @@ module _ (d : ℕ) (s : Bytes) (small : length s ≤ maxBytes) (one : ValueEarly
       at-kind (set vs) Set _ refl e
       (λ i g. counted-early d s small one 1 0 (count vs) vs (omega arith) (λ j h. omega arith) (omega arith) (omega arith) ok dp (omega arith) (at + 1) i q o g)
   value-step (attribute ps v) ok dp m e =
-      at-kind (attribute ps v) Attribute _ refl e (λ i g. pairs-early Attribute 1 ps (more v none) refl (ok .0) (ok .1, tt) (omega arith) (omega arith) (omega arith) i g)
+      at-kind (attribute ps v) Attribute _ refl e
+      (λ i g. pairs-early Attribute 1 ps (more v none) refl (ok .0) (ok .1, tt) (omega arith) (omega arith) (omega arith) i g)
   value-step (push vs) ok dp m e =
       at-kind (push vs) Push _ refl e
       (λ i g. counted-early d s small one 1 0 (count vs) vs (omega arith) (λ j h. omega arith) (omega arith) (omega arith) ok dp (omega arith) (at + 1) i q o g)
@@ -89,4 +96,5 @@ module _ (d : ℕ) (s : Bytes) (small : length s ≤ maxBytes) (one : ValueEarly
 -- bytes that end inside a value lack no more than it has behind them
 pub value-early : (d : ℕ) (s : Bytes) → length s ≤ maxBytes → ValueEarly d s
 value-early zero s small v ok dp m at l q o e = absurd (omega arith)
-value-early (suc d) s small v ok dp m at l q o e = value-step d s small (λ w a b c i j k x y. value-early d s small w a b c i j k x y) at l q o v ok (omega arith) m e
+value-early (suc d) s small v ok dp m at l q o e =
+    value-step d s small (λ w a b c i j k x y. value-early d s small w a b c i j k x y) at l q o v ok (omega arith) m e

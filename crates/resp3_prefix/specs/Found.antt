@@ -95,19 +95,40 @@ module _ (s : Bytes) (p : ℕ) where
       go : (c : Count) → countBegun maxBytes s p ≡ c → blobOf s c ≡ Lacks k → (x : Bytes) × Rest (framed x []) s p k
       go (Whole n e) c h =
           let b = whole-bounds maxBytes s p n e c in
-          let f = frame-found s e (e + n) k (b .1) (omega arith) h in
-          (f .x, record { q = f .q; is = fill-whole (length (f .x)) n e (f .q) (f .x ++ crlf []) (omega (arith, f .ends)) (behind maxBytes n e c) (f .is); long = f .long })
+          let f = frame-found s e (e + n) k (b .1) (omega arith) h in (
+            f .x,
+            record {
+              q = f .q;
+              is = fill-whole (length (f .x)) n e (f .q) (f .x ++ crlf []) (omega (arith, f .ends)) (behind maxBytes n e c)
+                  (f .is);
+              long = f .long;
+            },
+          )
       go Nothing c h = ([], record { q = framed [] []; is = fill-nothing 0 (crlf []) (count-says maxBytes s p Nothing c); long = lacks-same 5 k h })
       go (Digits m) c h =
           let x : Bytes = replicate m 58 in
           let l : length x ≡ m = length-replicate m 58 in
-          let z = lacks-same (m + 4) k h in
-          (x, record { q = crlf (x ++ crlf []); is = fill-digits (length x) m (x ++ crlf []) l (count-says maxBytes s p (Digits m) c .1); long = omega (arith, length-append x (crlf [])) })
+          let z = lacks-same (m + 4) k h in (
+            x,
+            record {
+              q = crlf (x ++ crlf []);
+              is = fill-digits (length x) m (x ++ crlf []) l (count-says maxBytes s p (Digits m) c .1);
+              long = omega
+                  (arith, length-append x (crlf []));
+            },
+          )
       go (Ended m) c h =
           let x : Bytes = replicate m 58 in
           let l : length x ≡ m = length-replicate m 58 in
-          let z = lacks-same (m + 3) k h in
-          (x, record { q = 10 ∷ (x ++ crlf []); is = fill-ended (length x) m (x ++ crlf []) l (count-says maxBytes s p (Ended m) c .1); long = omega (arith, length-append x (crlf [])) })
+          let z = lacks-same (m + 3) k h in (
+            x,
+            record {
+              q = 10 ∷ (x ++ crlf []);
+              is = fill-ended (length x) m (x ++ crlf []) l (count-says maxBytes s p (Ended m) c .1);
+              long = omega
+                  (arith, length-append x (crlf []));
+            },
+          )
       go NoCount c h = absurd (never-lacks k h)
 
   -- ---- integers and booleans
@@ -129,7 +150,8 @@ module _ (s : Bytes) (p : ℕ) where
   minus-found : (lim k : ℕ) (c : Count) → 1 ≤ lim → countBegun lim s p ≡ c → minusOf c ≡ Lacks k → (n : ℕ) × (n < lim) × Rest (counted (suc n) []) s p k
   unfolding digits
   minus-found lim k (Whole n e) o c h = absurd (byTest (eqb n 0) (λ t. never-lacks k (rw t at h)) (λ t. ends-lacks e k (rw t at h)))
-  minus-found lim k Nothing o c h = (0, omega arith, record { q = counted 1 []; is = fill-nothing 1 [] (count-says lim s p Nothing c); long = lacks-same 3 k h })
+  minus-found lim k Nothing o c h =
+      (0, omega arith, record { q = counted 1 []; is = fill-nothing 1 [] (count-says lim s p Nothing c); long = lacks-same 3 k h })
   minus-found lim k (Digits m) o c h =
       let w = count-says lim s p (Digits m) c in
       let b = w .0 in
@@ -151,7 +173,12 @@ module _ (s : Bytes) (p : ℕ) where
 -- behind a first byte
 pub rest-behind : (s : Bytes) (p x k : ℕ) (b : Bytes) → p < length s → getD s p 0 ≡ x → Rest b s (p + 1) k → Rest (x ∷ b) s p k
 rest-behind s p x k b l e r =
-    record { q = r .q; is = ap (λ (z : Bytes). x ∷ z) (r .is) ∙ ap (λ (z : Bytes). z ++ r .q) (sym (step s p l ∙ ap (λ (y : ℕ). y ∷ drop (p + 1) s) e)); long = r .long }
+    record {
+      q = r .q;
+      is = ap (λ (z : Bytes). x ∷ z) (r .is)
+          ∙ ap (λ (z : Bytes). z ++ r .q) (sym (step s p l ∙ ap (λ (y : ℕ). y ∷ drop (p + 1) s) e));
+      long = r .long;
+    }
 
 module _ (s : Bytes) (p k : ℕ) where
   pub integer-found : integerBegun s p ≡ Lacks k → (z : ℤ) × Fits64 z × Rest (integer z ++ crlf []) s p k

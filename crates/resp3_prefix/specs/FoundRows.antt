@@ -13,22 +13,27 @@ use Rattle.buffer.specs.Places.{step}
 use Rattle.config.specs.Limits.{maxBytes}
 use Rattle.decimal.specs.Digits.{digits}
 use Rattle.resp3.specs.declared.Kind.{Kind}
-use Rattle.resp3.specs.declared.Kind.the-variants.{BlobString, SimpleString, SimpleError, Number, Null, Double, Boolean, BlobError, VerbatimString, BigNumber, Array, Map, Set, Attribute, Push, Unknown}
+use Rattle.resp3.specs.declared.Kind.the-variants.{BlobString, SimpleString, SimpleError, Number, Null, Double, Boolean, BlobError, VerbatimString}
+use Rattle.resp3.specs.declared.Kind.the-variants.{BigNumber, Array, Map, Set, Attribute, Push, Unknown}
 use Rattle.resp3.specs.Kinds.{byteOf, kindOf}
 use Rattle.resp3.specs.KindLaws.{kind-known}
-use Rattle.resp3.specs.Value.{Value, Values, blobString, simpleString, simpleError, number, null, double, boolean, blobError, verbatimString, bigNumber, none, more, count, below, deepest, depth, Valid, Valids, crlf, counted, enc, encs, encode}
+use Rattle.resp3.specs.Value.{Value, Values, blobString, simpleString, simpleError, number, null, double, boolean, blobError, verbatimString}
+use Rattle.resp3.specs.Value.{bigNumber, more, count, below, deepest, depth, Valid, Valids, crlf, counted, enc, encs, encode}
 use Rattle.resp3.specs.Rows.{enc-is}
 use Rattle.resp3.specs.Sound.{end-sound}
 use Rattle.resp3_prefix.specs.declared.Begun.{Begun}
 use Rattle.resp3_prefix.specs.declared.Begun.the-variants.{Ends, Lacks, Never}
 use Rattle.resp3_prefix.specs.declared.Count.{Count}
 use Rattle.resp3_prefix.specs.declared.Count.the-variants.{Whole, Nothing, Digits, Ended, Never as NoCount}
-use Rattle.resp3_prefix.specs.Begun.{lacking, lackingRow, lackingBelow, countBegun, aloneOf, rowOf, bodyBegun, headBegun, headThen, begunThen, iter, valueBegun, rowBegun}
+use Rattle.resp3_prefix.specs.Begun.{lacking, lackingRow, lackingBelow, countBegun, aloneOf, rowOf, bodyBegun, headBegun, headThen, begunThen}
+use Rattle.resp3_prefix.specs.Begun.{iter, valueBegun, rowBegun}
 use Rattle.resp3_prefix.specs.CountSays.{count-says, whole-bounds}
 use Rattle.resp3_prefix.specs.SameRows.{alone-is, end-bounds, value-agree}
-use Rattle.resp3_prefix.specs.Found.{Rest, lacks-same, never-lacks, ends-lacks, fill-nothing, fill-digits, fill-ended, fill-whole, behind, crlf-found, line-found, blob-found, integer-found, boolean-found}
+use Rattle.resp3_prefix.specs.Found.{Rest, lacks-same, never-lacks, ends-lacks, fill-nothing, fill-digits, fill-ended, fill-whole, behind}
+use Rattle.resp3_prefix.specs.Found.{crlf-found, line-found, blob-found, integer-found, boolean-found}
 use Rattle.resp3_prefix.specs.FoundVerbatim.{verbatim-found}
-use Rattle.resp3_prefix.specs.Makes.{Makes, array-makes, map-makes, set-makes, attribute-makes, push-makes, nulls, nulls-count, nulls-valid, nulls-deep, nulls-long}
+use Rattle.resp3_prefix.specs.Makes.{Makes, array-makes, map-makes, set-makes, attribute-makes, push-makes, nulls, nulls-count, nulls-valid}
+use Rattle.resp3_prefix.specs.Makes.{nulls-deep, nulls-long}
 
 -- ---- sizes
 
@@ -142,7 +147,8 @@ module _ (d : ℕ) (s : Bytes) (small : length s ≤ maxBytes) (one : (at k : �
 
   module _ (p k : ℕ) where
     -- rows behind their count
-    made : (kind : Kind) (a b n : ℕ) (m : Makes kind a b) (ws : Values) → count ws ≡ a * n + b → Valids ws → deepest ws ≤ d → Rest (counted n (encs ws [])) s p k → Fills kind p k
+    made : (kind : Kind) (a b n : ℕ) (m : Makes kind a b) (ws : Values) → count ws ≡ a * n + b → Valids ws → deepest ws ≤ d
+        → Rest (counted n (encs ws [])) s p k → Fills kind p k
     made kind a b n m ws c o e r =
         record { v = m .make n ws; ok = m .valid n ws c o; deep = m .deep n ws d c e; body = counted n (encs ws []); is = m .written n ws [] c; rest = r }
 
@@ -152,7 +158,8 @@ module _ (d : ℕ) (s : Bytes) (small : length s ≤ maxBytes) (one : (at k : �
         let z = below-says d x (a * n + b) k h in
         made kind a b n m (nulls (a * n + b)) (nulls-count (a * n + b)) (nulls-valid (a * n + b)) (z .1) (f k (z .0))
 
-    rowed : (kind : Kind) (a b : ℕ) → Makes kind a b → ((a * 0 + b) ≡ b) → headThen (rowOf d a b (countBegun maxBytes s p)) (λ n e. rowBegun d s n e) ≡ Lacks k → Fills kind p k
+    rowed : (kind : Kind) (a b : ℕ) → Makes kind a b → ((a * 0 + b) ≡ b)
+        → headThen (rowOf d a b (countBegun maxBytes s p)) (λ n e. rowBegun d s n e) ≡ Lacks k → Fills kind p k
     unfolding digits
     rowed kind a b m zb h = go (countBegun maxBytes s p) refl h
       where
@@ -164,22 +171,42 @@ module _ (d : ℕ) (s : Bytes) (small : length s ≤ maxBytes) (one : (at k : �
             let w = whole-bounds maxBytes s p n e c in
             let r = row-found (a * n + b) e k (w .1) h in
             made kind a b n m (r .vs) (r .many) (r .ok) (r .deep)
-            (record { q = r .rest .q; is = fill-whole s p n n e (r .rest .q) (encs (r .vs) []) refl (behind s p maxBytes n e c) (r .rest .is); long = r .rest .long })
+            (record {
+              q = r .rest .q;
+              is = fill-whole s p n n e (r .rest .q) (encs (r .vs) []) refl (behind s p maxBytes n e c)
+                  (r .rest .is);
+              long = r .rest .long;
+            })
         go Nothing c h =
             made-nulls kind a b 0 3 m (rw zb (alone 3 b h))
             (λ j e.
             let l = nulls-long (a * 0 + b) in
-            record { q = counted 0 (encs (nulls (a * 0 + b)) []); is = fill-nothing s p 0 (encs (nulls (a * 0 + b)) []) (count-says maxBytes s p Nothing c); long = omega arith })
+            record {
+              q = counted 0 (encs (nulls (a * 0 + b)) []);
+              is = fill-nothing s p 0 (encs (nulls (a * 0 + b)) [])
+                  (count-says maxBytes s p Nothing c);
+              long = omega arith;
+            })
         go (Digits n) c h =
             made-nulls kind a b n 2 m (alone 2 (a * n + b) h)
             (λ j e.
             let l = nulls-long (a * n + b) in
-            record { q = crlf (encs (nulls (a * n + b)) []); is = fill-digits s p n n (encs (nulls (a * n + b)) []) refl (count-says maxBytes s p (Digits n) c .1); long = omega arith })
+            record {
+              q = crlf (encs (nulls (a * n + b)) []);
+              is = fill-digits s p n n (encs (nulls (a * n + b)) []) refl
+                  (count-says maxBytes s p (Digits n) c .1);
+              long = omega arith;
+            })
         go (Ended n) c h =
             made-nulls kind a b n 1 m (alone 1 (a * n + b) h)
             (λ j e.
             let l = nulls-long (a * n + b) in
-            record { q = 10 ∷ encs (nulls (a * n + b)) []; is = fill-ended s p n n (encs (nulls (a * n + b)) []) refl (count-says maxBytes s p (Ended n) c .1); long = omega arith })
+            record {
+              q = 10 ∷ encs (nulls (a * n + b)) [];
+              is = fill-ended s p n n (encs (nulls (a * n + b)) []) refl
+                  (count-says maxBytes s p (Ended n) c .1);
+              long = omega arith;
+            })
         go NoCount c h = absurd (never-lacks k h)
 
     -- values with none inside
@@ -189,8 +216,12 @@ module _ (d : ℕ) (s : Bytes) (small : length s ≤ maxBytes) (one : (at k : �
     by-kind : (kind : Kind) → p ≤ length s → headThen (bodyBegun d kind s p) (λ n e. rowBegun d s n e) ≡ Lacks k → Fills kind p k
     unfolding bodyBegun
     by-kind BlobString l h = let f = blob-found s p k (sym (alone-is d s _) ∙ h) in single BlobString (blobString (f .0)) _ tt (omega arith) refl (f .1)
-    by-kind SimpleString l h = let f = line-found s p k l (sym (alone-is d s _) ∙ h) in single SimpleString (simpleString (f .0)) _ (f .1) (omega arith) refl (f .2)
-    by-kind SimpleError l h = let f = line-found s p k l (sym (alone-is d s _) ∙ h) in single SimpleError (simpleError (f .0)) _ (f .1) (omega arith) refl (f .2)
+    by-kind SimpleString l h =
+        let f = line-found s p k l (sym (alone-is d s _) ∙ h) in
+        single SimpleString (simpleString (f .0)) _ (f .1) (omega arith) refl (f .2)
+    by-kind SimpleError l h =
+        let f = line-found s p k l (sym (alone-is d s _) ∙ h) in
+        single SimpleError (simpleError (f .0)) _ (f .1) (omega arith) refl (f .2)
     by-kind Number l h = let f = integer-found s p k (sym (alone-is d s _) ∙ h) in single Number (number (f .0)) _ (f .1) (omega arith) refl (f .2)
     by-kind Null l h = single Null null _ tt (omega arith) refl (crlf-found s p k l (sym (alone-is d s _) ∙ h))
     by-kind Double l h = let f = line-found s p k l (sym (alone-is d s _) ∙ h) in single Double (double (f .0)) _ (f .1) (omega arith) refl (f .2)
@@ -237,7 +268,17 @@ module _ (d : ℕ) (s : Bytes) (small : length s ≤ maxBytes) (one : (at k : �
       byTest (leb (length s) at)
       (λ t.
       let e : drop at s ≡ [] = drop-of-length-le s {i = at} (leb-true (length s) at t) in
-      record { v = null; ok = tt; deep = omega arith; rest = record { q = enc null []; is = ap (λ (y : Bytes). y ++ enc null []) (sym e); long = lacks-same 3 k (rw t at h) } })
+      record {
+        v = null;
+        ok = tt;
+        deep = omega arith;
+        rest = record {
+          q = enc null [];
+          is = ap (λ (y : Bytes). y ++ enc null [])
+              (sym e);
+          long = lacks-same 3 k (rw t at h);
+        };
+      })
       (λ t.
       let o = leb-false (length s) at t in
       let b = rw t at h in

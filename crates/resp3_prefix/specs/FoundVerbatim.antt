@@ -150,8 +150,17 @@ module _ (s : Bytes) (p k : ℕ) where
           (λ f. behind-colon n e (b .1) d (leb-true 4 n t) (rw (t, u, f) at h) (leb-false (length s) (e + 3) u) (eqb-true (getD s (e + 3) 0) 58 f))
           (λ f. absurd (never-lacks k (rw (t, u, f) at h)))))
           (λ t. absurd (never-lacks k (rw t at h)))
-      go Nothing c h =
-          (three, [], refl, record { q = framed (text 4) []; is = fill-nothing s p 4 (text 4 ++ crlf []) (count-says maxBytes s p Nothing c); long = lacks-same 9 k h })
+      go Nothing c h = (
+        three,
+        [],
+        refl,
+        record {
+          q = framed (text 4) [];
+          is = fill-nothing s p 4 (text 4 ++ crlf [])
+              (count-says maxBytes s p Nothing c);
+          long = lacks-same 9 k h;
+        },
+      )
       go (Digits m) c h = of-digits m (count-says maxBytes s p (Digits m) c .1) h
       go (Ended m) c h =
           byTest (leb 4 m)
@@ -162,7 +171,12 @@ module _ (s : Bytes) (p k : ℕ) where
             three,
             replicate (m - 4) 58,
             refl,
-            record { q = 10 ∷ (X ++ crlf []); is = fill-ended s p (length X) m (X ++ crlf []) l (count-says maxBytes s p (Ended m) c .1); long = omega (arith, length-append X (crlf [])) },
+            record {
+              q = 10 ∷ (X ++ crlf []);
+              is = fill-ended s p (length X) m (X ++ crlf []) l (count-says maxBytes s p (Ended m) c .1);
+              long = omega
+                  (arith, length-append X (crlf []));
+            },
           ))
           (λ t. absurd (never-lacks k (rw t at h)))
       go NoCount c h = absurd (never-lacks k h)

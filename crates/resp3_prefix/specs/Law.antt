@@ -115,7 +115,8 @@ begins-found s k h = go (valueBegun maxDepth (front s) 0) refl h
     at : (j : ℕ) → j ≡ k → length s + j ≤ maxBytes → valueBegun maxDepth (front s) 0 ≡ Lacks j → Begins s k
     at j i l e =
         let b : front s ≡ s = take-all maxBytes s (omega arith) in
-        subst (Begins s) i (begins-so s j (subst (λ (t : Bytes). Found maxDepth t 0 j) b (value-found maxDepth (front s) (front-small s) 0 j (omega arith) e)) l)
+        subst (Begins s) i (begins-so s j
+        (subst (λ (t : Bytes). Found maxDepth t 0 j) b (value-found maxDepth (front s) (front-small s) 0 j (omega arith) e)) l)
 
     go : (x : Begun) → valueBegun maxDepth (front s) 0 ≡ x → within (length s) x ≡ Lacks k → Begins s k
     go (Ends e) i h = absurd (ends-lacks e k h)
@@ -212,7 +213,14 @@ pub complete-stays : (s r : Bytes) (n : ℕ) → firstValue s ≡ Ends n → fir
 complete-stays s r n h =
     let c = complete-found s n h in
     found-complete (s ++ r) n
-    (record { v = c .v; within = c .within; rest = c .rest ++ r; is = ap (λ (z : Bytes). z ++ r) (c .is) ∙ append-assoc (encode (c .v)) (c .rest) r; long = c .long })
+    (record {
+      v = c .v;
+      within = c .within;
+      rest = c .rest ++ r;
+      is = ap (λ (z : Bytes). z ++ r) (c .is)
+          ∙ append-assoc (encode (c .v)) (c .rest) r;
+      long = c .long;
+    })
 
 pub never-stays : (s r : Bytes) → firstValue s ≡ Never → firstValue (s ++ r) ≡ Never
 never-stays s r h = never-law (s ++ r) .1 (none, begins)

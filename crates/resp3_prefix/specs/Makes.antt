@@ -8,7 +8,8 @@ use Rattle.buffer.specs.Same.{Bytes}
 use Rattle.resp3.specs.declared.Kind.{Kind}
 use Rattle.resp3.specs.declared.Kind.the-variants.{Array, Map, Set, Attribute, Push}
 use Rattle.resp3.specs.Kinds.{byteOf}
-use Rattle.resp3.specs.Value.{Value, Values, null, array, map, set, attribute, push, none, more, count, countPairs, below, deepest, deepestPairs, Valid, Valids, ValidPairs, counted, enc, encs, encPairs}
+use Rattle.resp3.specs.Value.{Value, Values, null, array, map, set, attribute, push, none, more, count, countPairs, below, deepest, deepestPairs}
+use Rattle.resp3.specs.Value.{Valid, Valids, ValidPairs, counted, enc, encs, encPairs}
 use Rattle.resp3.specs.Rows.{flat, flat-enc, valid-flat, deep-flat, headOf, pairUp, skip, paired, row-none, row-one}
 
 -- a kind that holds values behind a count n, a * n + b of them

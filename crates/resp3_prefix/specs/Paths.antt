@@ -21,7 +21,9 @@ use Rattle.resp3_prefix.specs.declared.Count.{Count}
 use Rattle.resp3_prefix.specs.declared.Count.the-variants.{Whole, Nothing, Digits, Ended, Never as NoCount}
 use Rattle.resp3_prefix.specs.declared.Opened.{Opened}
 use Rattle.resp3_prefix.specs.declared.Opened.the-variants.{Lacks as LacksHead}
-use Rattle.resp3_prefix.specs.Begun.{lacking, lackingRow, lackingBelow, crlfBegun, countEnd, countBegun, lineBegun, blobOf, blobBegun, verbatimBody, verbatimDigits, verbatimOf, verbatimBegun, digitsOf, minusOf, integerBegun, booleanBegun, bodyBegun, headBegun, headThen, begunThen, iter, valueBegun, rowBegun, within, firstValue}
+use Rattle.resp3_prefix.specs.Begun.{lacking, lackingRow, lackingBelow, crlfBegun, countEnd, countBegun, lineBegun, blobOf, blobBegun}
+use Rattle.resp3_prefix.specs.Begun.{verbatimBody, verbatimDigits, verbatimOf, verbatimBegun, digitsOf, minusOf, integerBegun, booleanBegun}
+use Rattle.resp3_prefix.specs.Begun.{bodyBegun, headBegun, headThen, begunThen, iter, valueBegun, rowBegun, within, firstValue}
 use Rattle.resp3_prefix.specs.Cases.{depth-17}
 
 -- ---- sizes
@@ -244,7 +246,8 @@ module _ (d : ℕ) (s : Bytes) where
   unfolding rowBegun iter
   row-none n at h = rw h
 
-pub value-head : (d : ℕ) (s : Bytes) (at : ℕ) (x : Opened) → ((d ≡ 0) → ⊥) → headBegun (d - 1) s at ≡ x → valueBegun d s at ≡ headThen x (λ n e. rowBegun (d - 1) s n e)
+pub value-head : (d : ℕ) (s : Bytes) (at : ℕ) (x : Opened) → ((d ≡ 0) → ⊥) → headBegun (d - 1) s at ≡ x
+    → valueBegun d s at ≡ headThen x (λ n e. rowBegun (d - 1) s n e)
 unfolding valueBegun rowBegun
 value-head zero s at x z h = absurd (z refl)
 value-head (suc d) s at x z h = let j : suc d - 1 ≡ d = omega arith in rw j (let k : headBegun d s at ≡ x = rw j at h in rw k)

@@ -69,7 +69,8 @@ crlf-lacks s i k e f g =
 -- ---- so many bytes, and CR LF
 
 -- bytes x that end at i and the CR LF behind them, of which q is lacking
-pub frame-early : (s : Bytes) (p i : ℕ) (x q : Bytes) → p ≤ length s → i ≡ p + length x → x ++ crlf [] ≡ drop p s ++ q → 0 < length q → Early (crlfBegun s i) (length q)
+pub frame-early : (s : Bytes) (p i : ℕ) (x q : Bytes) → p ≤ length s → i ≡ p + length x → x ++ crlf [] ≡ drop p s ++ q → 0 < length q
+    → Early (crlfBegun s i) (length q)
 frame-early s p i x q l n e o =
     let t : Bytes = drop p s in
     let a : length x + 2 ≡ length t + length q = omega (arith, ap length e, length-append x (crlf []), length-append t q) in
@@ -140,7 +141,8 @@ unfolding oneLine plain
 plain-body [] r h = omega arith
 plain-body (y ∷ x) r h = go (plainB y) refl h (λ k. plain-body x r k)
   where
-    go : (b : Bool) → plainB y ≡ b → oneLine (y ∷ x) ≡ true → (oneLine x ≡ true → plain (x ++ r) ≡ length x + plain r) → plain (y ∷ (x ++ r)) ≡ suc (length x) + plain r
+    go : (b : Bool) → plainB y ≡ b → oneLine (y ∷ x) ≡ true → (oneLine x ≡ true → plain (x ++ r) ≡ length x + plain r)
+        → plain (y ∷ (x ++ r)) ≡ suc (length x) + plain r
     go true e k ih = rw (e, plain) (let z = ih (rw (e, oneLine) at k) in omega arith)
     go false e k ih = absurd (let z = rw (e, oneLine) at k in let u : _≡_ {A = ℕ} 0 1 = cc in omega arith)
 

@@ -11,14 +11,13 @@ use Rattle.buffer.specs.Cases.{byTest}
 use Rattle.buffer.specs.Same.{Bytes}
 use Rattle.config.specs.Limits.{maxBytes}
 use Rattle.decimal.specs.Digits.{digits}
-use Rattle.decimal.specs.Read.{both, crlfB, numDef}
+use Rattle.decimal.specs.Read.{crlfB, numDef}
 use Rattle.decimal.specs.ReadLaws.{crlf-in}
 use Rattle.decimal.specs.NumLaw.{num-law}
 use Rattle.decimal.specs.NumSound.{num-sound}
 use Rattle.decimal.specs.declared.Num.the-variants.{Val}
 use Rattle.resp3.specs.declared.End.{End}
 use Rattle.resp3.specs.declared.End.the-variants.{At, Bad}
-use Rattle.resp3.specs.Rows.{longer}
 use Rattle.resp3.specs.Ends.{lengthAt, crlfEnd, lineEnd, blobEnd, verbatimEnd, numberEnd, booleanEnd}
 use Rattle.resp3.specs.Ends as ends
 use Rattle.resp3.specs.Paths as paths
@@ -27,7 +26,8 @@ use Rattle.resp3_prefix.specs.declared.Begun.{Begun}
 use Rattle.resp3_prefix.specs.declared.Begun.the-variants.{Ends, Lacks, Never}
 use Rattle.resp3_prefix.specs.declared.Count.{Count}
 use Rattle.resp3_prefix.specs.declared.Count.the-variants.{Whole, Nothing, Digits, Ended, Never as NoCount}
-use Rattle.resp3_prefix.specs.Begun.{lacking, lackingRow, lackingBelow, crlfBegun, countBegun, lineBegun, blobOf, blobBegun, verbatimBody, verbatimDigits, verbatimOf, verbatimBegun, digitsOf, minusOf, integerBegun, booleanBegun}
+use Rattle.resp3_prefix.specs.Begun.{lacking, lackingRow, lackingBelow, crlfBegun, countBegun, lineBegun, blobOf, blobBegun, verbatimBody}
+use Rattle.resp3_prefix.specs.Begun.{verbatimDigits, verbatimOf, verbatimBegun, digitsOf, minusOf, integerBegun, booleanBegun}
 use Rattle.resp3_prefix.specs.Counts.{whole-here}
 use Rattle.resp3_prefix.specs.CountSays.{count-says}
 
@@ -155,7 +155,8 @@ module _ (s : Bytes) (small : length s ≤ maxBytes) (p : ℕ) where
     where
       digits-no-end : (m e : ℕ) → verbatimDigits m ≡ Ends e → ⊥
       digits-no-end m e h = unfold verbatimDigits in
-          byTest (leb 4 m) (λ t. lacks-no-end _ e (rw t at h)) (λ t. byTest (eqb m 0) (λ u. never-no-end e (rw (t, u) at h)) (λ u. lacks-no-end _ e (rw (t, u) at h)))
+          byTest (leb 4 m) (λ t. lacks-no-end _ e (rw t at h))
+          (λ t. byTest (eqb m 0) (λ u. never-no-end e (rw (t, u) at h)) (λ u. lacks-no-end _ e (rw (t, u) at h)))
 
       body : (n q e : ℕ) → verbatimBody s n q ≡ Ends e → (4 ≤ n) × (crlfBegun s (q + n) ≡ Ends e) × ((q + 3 < length s) → getD s (q + 3) 0 ≡ 58)
       body n q e h = unfold verbatimBody in
@@ -219,7 +220,8 @@ module _ (s : Bytes) (small : length s ≤ maxBytes) (p : ℕ) where
           rw (whole-from 9223372036854775808 s (p + 1) (z .n) (z .q) (z .is))
           (byTest (eqb (z .n) 0) (λ t. absurd (not-bad e (rw t at (z .then)))) (λ t. rw t (ap Ends (at-same (z .q) e (rw t at (z .then))))))
 
-      plus-to : (e : ℕ) (c : Count) → countBegun 9223372036854775807 s p ≡ c → digitsOf c ≡ Ends e → ends.numThen (numDef 9223372036854775807 s p) (λ n q. At q) ≡ At e
+      plus-to : (e : ℕ) (c : Count) → countBegun 9223372036854775807 s p ≡ c → digitsOf c ≡ Ends e
+          → ends.numThen (numDef 9223372036854775807 s p) (λ n q. At q) ≡ At e
       plus-to e (Whole n q) k h = rw (count-says 9223372036854775807 s p (Whole n q) k) (ap At (same-end q e h))
       plus-to e Nothing k h = absurd (lacks-no-end 3 e h)
       plus-to e (Digits m) k h = absurd (lacks-no-end 2 e h)
@@ -243,4 +245,5 @@ module _ (s : Bytes) (small : length s ≤ maxBytes) (p : ℕ) where
       (λ c.
       byTest (eqb (getD s p 0) 102)
       (λ f. rw (t, c, f, paths.bool-f s p (eqb-true (getD s p 0) 102 f)) (crlf-agree s (p + 1)))
-      (λ f. rw (t, c, f) (neither Never (booleanEnd s p) (λ e h. never-no-end e h) (paths.bool-else s p (eqb-false (getD s p 0) 116 c) (eqb-false (getD s p 0) 102 f))))))
+      (λ f. rw (t, c, f) (neither Never (booleanEnd s p) (λ e h. never-no-end e h)
+      (paths.bool-else s p (eqb-false (getD s p 0) 116 c) (eqb-false (getD s p 0) 102 f))))))

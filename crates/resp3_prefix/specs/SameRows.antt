@@ -9,7 +9,8 @@ use Rattle.buffer.specs.Cases.{byTest}
 use Rattle.buffer.specs.Same.{Bytes}
 use Rattle.config.specs.Limits.{maxBytes}
 use Rattle.resp3.specs.declared.Kind.{Kind}
-use Rattle.resp3.specs.declared.Kind.the-variants.{BlobString, SimpleString, SimpleError, Number, Null, Double, Boolean, BlobError, VerbatimString, BigNumber, Array, Map, Set, Attribute, Push, Unknown}
+use Rattle.resp3.specs.declared.Kind.the-variants.{BlobString, SimpleString, SimpleError, Number, Null, Double, Boolean, BlobError, VerbatimString}
+use Rattle.resp3.specs.declared.Kind.the-variants.{BigNumber, Array, Map, Set, Attribute, Push, Unknown}
 use Rattle.resp3.specs.declared.End.{End}
 use Rattle.resp3.specs.declared.End.the-variants.{At, Bad}
 use Rattle.resp3.specs.Kinds.{shapeOf, kindOf}
@@ -26,7 +27,8 @@ use Rattle.resp3_prefix.specs.declared.Count.{Count}
 use Rattle.resp3_prefix.specs.declared.Count.the-variants.{Whole, Nothing, Digits, Ended, Never as NoCount}
 use Rattle.resp3_prefix.specs.Begun.{lackingBelow, countBegun, aloneOf, rowOf, bodyBegun, headBegun, headThen, begunThen, iter, valueBegun, rowBegun}
 use Rattle.resp3_prefix.specs.CountSays.{whole-bounds}
-use Rattle.resp3_prefix.specs.Same.{lacks-no-end, never-no-end, same-end, row-no-end, below-no-end, Agree, neither, crlf-agree, length-to, length-from, line-agree, blob-agree, verbatim-agree, integer-agree, boolean-agree}
+use Rattle.resp3_prefix.specs.Same.{lacks-no-end, never-no-end, same-end, row-no-end, below-no-end, Agree, neither, crlf-agree, length-to}
+use Rattle.resp3_prefix.specs.Same.{length-from, line-agree, blob-agree, verbatim-agree, integer-agree, boolean-agree}
 
 -- the same, in other words
 agree-as : {x z : Begun} {y w : End} → z ≡ x → w ≡ y → Agree x y → Agree z w
@@ -73,7 +75,8 @@ module _ (d : ℕ) (s : Bytes) (small : length s ≤ maxBytes) (one : (at : ℕ)
   rows-from zero q e h = ap Ends (at-same q e h)
   rows-from (suc n) q e h = go (valueEnd d s q) refl h (λ x i. rows-from n x e i)
     where
-      go : (y : End) → valueEnd d s q ≡ y → endThen y (λ z. ends.iter (λ x. valueEnd d s x) n z) ≡ At e → ((z : ℕ) → itemsEnd d s n z ≡ At e → rowBegun d s n z ≡ Ends e)
+      go : (y : End) → valueEnd d s q ≡ y → endThen y (λ z. ends.iter (λ x. valueEnd d s x) n z) ≡ At e
+          → ((z : ℕ) → itemsEnd d s n z ≡ At e → rowBegun d s n z ≡ Ends e)
           → begunThen (valueBegun d s q) n (λ z. iter (λ x. valueBegun d s x) n z) ≡ Ends e
       go (At x) k h f = rw (one q .1 x k) (f x h)
       go Bad k h f = absurd (not-bad e h)

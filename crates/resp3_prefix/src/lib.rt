@@ -8,7 +8,9 @@ ghost use lib.ListN.{length, getD};
 ghost use Rattle.config.specs.Limits.{maxBytes};
 ghost use Rattle.decimal.specs.Read.{digitB};
 ghost use Rattle.resp3.specs.Value.{plainB};
-ghost use Rattle.resp3_prefix.specs.Begun.{lacking, lackingRow, lackingBelow, crlfBegun, countEnd, countBegun, lineBegun, blobBegun, verbatimBody, verbatimDigits, verbatimBegun, digitsOf, minusOf, integerBegun, booleanBegun, aloneOf, rowOf, headBegun, valueBegun, within, firstValue};
+ghost use Rattle.resp3_prefix.specs.Begun.{lacking, lackingRow, lackingBelow, crlfBegun, countEnd, countBegun, lineBegun, blobBegun};
+ghost use Rattle.resp3_prefix.specs.Begun.{verbatimBody, verbatimDigits, verbatimBegun, digitsOf, minusOf, integerBegun, booleanBegun};
+ghost use Rattle.resp3_prefix.specs.Begun.{aloneOf, rowOf, headBegun, valueBegun, within, firstValue};
 
 // How far a value stands in the bytes.
 pub enum Begun {

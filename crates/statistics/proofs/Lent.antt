@@ -12,7 +12,7 @@ use base.Logic.{SProp, ent, sep, emp, via, fst∗, snd∗, exE, id⊢}
 use base.Fml.{GName, Lft, Share, ftrue, flft, fobs, fbor}
 use prog.Wp.{Heap, Calls, Loops, WpFn, Tables}
 use ghost.Atoms.{Atoms, sem}
-use contract.Monad.{Fun, fact}
+use contract.Monad.{fact}
 use types.Kit.{Given, ‵, raw, _⊛_, some, later, _$_, _∵_, !, qed, by, move, keep, drop, use0, use1, split, join}
 use types.Kit.{pick, fsplit, fsplit3, fjoin, fjoin3, feqI, suffices, frame, await, done}
 use types.Run.{look, look-raw, init, store-raw, forget, stop, hop, from, load, unit-lit, and-then, no-more, of-opd}
@@ -64,9 +64,6 @@ stayed = (stay-ref (0 ∷ []) tt (plain (λ _. T.the-row)), (stay-dropped (plain
 
 abbrev vals : Statistics → List Val
 vals = LL.vals T.the-type T′.the-laws
-
-abbrev mach : Statistics → Val
-mach = LL.val T.the-type T′.the-laws
 
 module _ (more : Statistics → ℕ → Statistics) {M : Type 1} (𝓤 : URA M) (H : Heap 𝓤) (A : Atoms 𝓤) where
   -- the two contracts

@@ -29,7 +29,8 @@ returns-2 : tie.Need-returns-2 Inv-loop μ-loop
 returns-2 c =
     let l : ℕ = c .before .before .before .before .before .loop .left in
     let b = c .before .wide .ensures .0 in
-    sym (c .before .before .before .before .before .loop .inv .1 ∙ laws.number-bad (l - 1) l _ _ _ (omega arith) (c .before .before .before .if1 .left) (omega arith))
+    sym (c .before .before .before .before .before .loop .inv .1
+    ∙ laws.number-bad (l - 1) l _ _ _ (omega arith) (c .before .before .before .if1 .left) (omega arith))
 
 add-i : tie.Need-add-i Inv-loop μ-loop
 add-i c = omega arith
@@ -48,7 +49,8 @@ loop-again c =
       omega arith,
       c .before .before .before .before .before .loop .inv .1
           ∙ laws.number-go (l - 1) l _ _ _ (omega arith) (c .before .before .before .if1 .left) (omega arith) (omega arith)
-          ∙ ap (λ (x : ℕ). laws.numberEnd (l - 1) ((c .before .before .before .before .before .loop .room - x) / 256) (c .before .before .before .before .before .before .before .args .s .now) (c .before .before .before .before .before .loop .i + 1)) (sym b),
+          ∙ ap (λ (x : ℕ). laws.numberEnd (l - 1) ((c .before .before .before .before .before .loop .room - x) / 256)
+          (c .before .before .before .before .before .before .before .args .s .now) (c .before .before .before .before .before .loop .i + 1)) (sym b),
     )
 
 returns-3 : tie.Need-returns-3 Inv-loop μ-loop

@@ -1,6 +1,5 @@
 -- `call_record::rest_end` meets its contract. Assumes nothing.
 use mathlib.Core.Path.{sym, _∙_}
-use Prim.Native.Nat.{_-_}
 use native.Mathlib.Omega.{arith}
 use Rattle.call_record.specs.CommandPaths as laws
 use Rattle.call_record.specs.Formats.{count-fits}
@@ -33,13 +32,19 @@ cast-arguments-end : tie.Need-cast-arguments-end
 cast-arguments-end c = search needs
 
 arguments-end-requires : tie.Need-arguments-end-requires
-arguments-end-requires c κs = laws.count-inside _ count-fits _ _ _ (omega arith) (sym (c .before .before .before .before .number-end .ensures) ∙ c .before .before .n2 .given .1) .1
+arguments-end-requires c κs =
+    laws.count-inside _ count-fits _ _ _ (omega arith) (sym (c .before .before .before .before .number-end .ensures) ∙ c .before .before .n2 .given .1) .1
 
 returns-2 : tie.Need-returns-2
-returns-2 c = sym (laws.rest-wrong _ (λ i. c .before .before .before .before .before .shared-slice-known .given i .fits) _ (omega arith) _ (omega arith) (sym (c .before .before .before .number-end .ensures) ∙ c .before .n .given .1))
+returns-2 c =
+    sym (laws.rest-wrong _ (λ i. c .before .before .before .before .before .shared-slice-known .given i .fits) _ (omega arith) _ (omega arith)
+    (sym (c .before .before .before .number-end .ensures) ∙ c .before .n .given .1))
 
 returns-3 : tie.Need-returns-3
-returns-3 c = c .arguments-end .ensures ∙ sym (laws.rest-go _ (λ i. c .before .before .before .before .before .before .before .shared-slice-known .given i .fits) _ (omega arith) _ _ (omega arith) (sym (c .before .before .before .before .before .number-end .ensures) ∙ c .before .before .before .n2 .given .1) (c .before .read-u16 .ensures))
+returns-3 c =
+    c .arguments-end .ensures ∙ sym
+    (laws.rest-go _ (λ i. c .before .before .before .before .before .before .before .shared-slice-known .given i .fits) _ (omega arith) _ _ (omega arith)
+    (sym (c .before .before .before .before .before .number-end .ensures) ∙ c .before .before .before .n2 .given .1) (c .before .read-u16 .ensures))
 
 pub rest-end-spec : {M : Type 1} → statement M
 rest-end-spec =

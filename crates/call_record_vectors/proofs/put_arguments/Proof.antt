@@ -39,13 +39,22 @@ put-requires-2 : tie.Need-put-requires-2 Inv-loop μ-loop
 put-requires-2 c κs = search needs
 
 put-range-requires : tie.Need-put-range-requires Inv-loop μ-loop
-put-range-requires c κs = simple-here _ _ _ _ _ (c .before .before .before .before .before .next-arg .ensures) (c .before .before .before .n .given .1) (c .before .before .before .before .before .before .before .before .loop .inv) .0
+put-range-requires c κs =
+    let c₃ = c .before .before .before in
+    let c₈ = c₃ .before .before .before .before .before in
+    simple-here _ _ _ _ _ (c₃ .before .before .next-arg .ensures) (c₃ .n .given .1) (c₈ .loop .inv) .0
 
 loop-less : tie.Need-loop-less Inv-loop μ-loop
-loop-less c = simple-here _ _ _ _ _ (c .before .before .before .before .before .before .next-arg .ensures) (c .before .before .before .before .n .given .1) (c .before .before .before .before .before .before .before .before .before .loop .inv) .2
+loop-less c =
+    let c₄ = c .before .before .before .before in
+    let c₉ = c₄ .before .before .before .before .before in
+    simple-here _ _ _ _ _ (c₄ .before .before .next-arg .ensures) (c₄ .n .given .1) (c₉ .loop .inv) .2
 
 loop-again : tie.Need-loop-again Inv-loop μ-loop
-loop-again c = simple-here _ _ _ _ _ (c .before .before .before .before .before .before .next-arg .ensures) (c .before .before .before .before .n .given .1) (c .before .before .before .before .before .before .before .before .before .loop .inv) .1
+loop-again c =
+    let c₄ = c .before .before .before .before in
+    let c₉ = c₄ .before .before .before .before .before in
+    simple-here _ _ _ _ _ (c₄ .before .before .next-arg .ensures) (c₄ .n .given .1) (c₉ .loop .inv) .1
 
 enum-known-n-2 : tie.Need-enum-known-n-2 Inv-loop μ-loop
 enum-known-n-2 c = search needs
@@ -57,10 +66,16 @@ put-requires-3 : tie.Need-put-requires-3 Inv-loop μ-loop
 put-requires-3 c κs = search needs
 
 loop-less-2 : tie.Need-loop-less-2 Inv-loop μ-loop
-loop-less-2 c = cursor-here _ _ _ _ (c .before .before .before .before .before .next-arg .ensures) (c .before .before .before .n2 .given .1) (c .before .before .before .before .before .before .before .before .loop .inv) .1
+loop-less-2 c =
+    let c₃ = c .before .before .before in
+    let c₈ = c₃ .before .before .before .before .before in
+    cursor-here _ _ _ _ (c₃ .before .before .next-arg .ensures) (c₃ .n2 .given .1) (c₈ .loop .inv) .1
 
 loop-again-2 : tie.Need-loop-again-2 Inv-loop μ-loop
-loop-again-2 c = cursor-here _ _ _ _ (c .before .before .before .before .before .next-arg .ensures) (c .before .before .before .n2 .given .1) (c .before .before .before .before .before .before .before .before .loop .inv) .0
+loop-again-2 c =
+    let c₃ = c .before .before .before in
+    let c₈ = c₃ .before .before .before .before .before in
+    cursor-here _ _ _ _ (c₃ .before .before .next-arg .ensures) (c₃ .n2 .given .1) (c₈ .loop .inv) .0
 
 returns-2 : tie.Need-returns-2 Inv-loop μ-loop
 returns-2 c = search needs

@@ -27,13 +27,22 @@ enum-known-n : tie.Need-enum-known-n Inv-loop μ-loop
 enum-known-n c = search needs
 
 put-command-requires : tie.Need-put-command-requires Inv-loop μ-loop
-put-command-requires c κs = command-here _ _ _ _ _ (c .before .before .before .next-command .ensures) (c .before .n .given .1) (c .before .before .before .before .before .before .loop .inv) .0
+put-command-requires c κs =
+    let c₃ = c .before .before .before in
+    let c₆ = c₃ .before .before .before in
+    command-here _ _ _ _ _ (c₃ .next-command .ensures) (c .before .n .given .1) (c₆ .loop .inv) .0
 
 loop-less : tie.Need-loop-less Inv-loop μ-loop
-loop-less c = command-here _ _ _ _ _ (c .before .before .before .before .next-command .ensures) (c .before .before .n .given .1) (c .before .before .before .before .before .before .before .loop .inv) .2
+loop-less c =
+    let c₄ = c .before .before .before .before in
+    let c₇ = c₄ .before .before .before in
+    command-here _ _ _ _ _ (c₄ .next-command .ensures) (c .before .before .n .given .1) (c₇ .loop .inv) .2
 
 loop-again : tie.Need-loop-again Inv-loop μ-loop
-loop-again c = command-here _ _ _ _ _ (c .before .before .before .before .next-command .ensures) (c .before .before .n .given .1) (c .before .before .before .before .before .before .before .loop .inv) .1
+loop-again c =
+    let c₄ = c .before .before .before .before in
+    let c₇ = c₄ .before .before .before in
+    command-here _ _ _ _ _ (c₄ .next-command .ensures) (c .before .before .n .given .1) (c₇ .loop .inv) .1
 
 returns-2 : tie.Need-returns-2 Inv-loop μ-loop
 returns-2 c = search needs

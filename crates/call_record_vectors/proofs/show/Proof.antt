@@ -41,7 +41,9 @@ put-requires-3 : tie.Need-put-requires-3
 put-requires-3 c κs = search needs
 
 is-transaction-requires : tie.Need-is-transaction-requires
-is-transaction-requires c κs = record-here _ (sym (c .before .before .before .before .before .check .ensures) ∙ c .before .before .before .enum-told .given .1) .0
+is-transaction-requires c κs =
+    let c₃ = c .before .before .before in
+    record-here _ (sym (c₃ .before .before .check .ensures) ∙ c₃ .enum-told .given .1) .0
 
 slice-aggregate-put-4 : tie.Need-slice-aggregate-put-4
 slice-aggregate-put-4 c = search needs
@@ -65,7 +67,11 @@ put-requires-6 : tie.Need-put-requires-6
 put-requires-6 c κs = search needs
 
 put-commands-requires : tie.Need-put-commands-requires
-put-commands-requires c κs = subst (λ (k : Commands). CommandsHere (c .before .before .before .before .before .before .before .before .before .before .before .before .before .before .args .s .now) k) (sym (c .before .before .before .before .before .before .before .before .before .commands-of .ensures)) (record-here _ (sym (c .before .before .before .before .before .before .before .before .before .before .before .before .check .ensures) ∙ c .before .before .before .before .before .before .before .before .before .before .enum-told .given .1) .1)
+put-commands-requires c κs =
+    let c₉ = c .before .before .before .before .before .before .before .before .before in
+    let c₁₂ = c₉ .before .before .before in
+    subst (λ (k : Commands). CommandsHere (c₁₂ .before .before .args .s .now) k) (sym (c₉ .commands-of .ensures))
+    (record-here _ (sym (c₁₂ .check .ensures) ∙ c₉ .before .enum-told .given .1) .1)
 
 returns : tie.Need-returns
 returns c = search needs

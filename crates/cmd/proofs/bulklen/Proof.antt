@@ -1,5 +1,4 @@
 -- `cmd::bulklen` meets its contract. Assumes nothing.
-use Prim.Native.Nat.{_-_}
 use native.Mathlib.Omega.{arith}
 use Rattle.decimal.specs.DigitLaws.{count-max}
 use borrow.Author.Needs.{needs}

@@ -1,6 +1,5 @@
 -- `cmd::sent_len` meets its contract. Assumes nothing.
 use mathlib.Core.Path.{sym, ap, _∙_}
-use Prim.Native.Nat.{_-_}
 use lib.ListN.{length}
 use Rattle.cmd.specs.Laws as laws
 use borrow.Author.Needs.{needs}
@@ -26,7 +25,9 @@ returns : tie.Need-returns
 returns c = c .read-u32 .ensures ∙ sym (laws.sent-size _ _ _ (c .before .before .before .before .pre) (c .before .if1 .taken))
 
 returns-2 : tie.Need-returns-2
-returns-2 c = c .countdigits .ensures ∙ ap length (sym (laws.sent-cursor (c .before .before .before .before .args .s .now) (c .before .before .before .before .args .cursor) (c .before .before .before .before .args .at) (c .before .if1 .left)))
+returns-2 c =
+    let c₄ = c .before .before .before .before in
+    c .countdigits .ensures ∙ ap length (sym (laws.sent-cursor (c₄ .args .s .now) (c₄ .args .cursor) (c₄ .args .at) (c .before .if1 .left)))
 
 pub sent-len-spec : {M : Type 1} → statement M
 sent-len-spec =

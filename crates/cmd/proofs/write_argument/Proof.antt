@@ -1,5 +1,4 @@
 -- `cmd::write_argument` meets its contract. Assumes nothing.
-use Prim.Native.Nat.{_-_}
 use Rattle.cmd.specs.Laws as laws
 use borrow.Author.Needs.{needs}
 use Rattle.cmd.proofs.write_argument.Statement.{statement}
@@ -33,22 +32,37 @@ part-write-blob-end : tie.Need-part-write-blob-end
 part-write-blob-end c = search needs
 
 write-blob-requires : tie.Need-write-blob-requires
-write-blob-requires c κs = laws.room-as (c .before .before .before .before .before .before .before .args .dst .now) _ _ _ (laws.sent-simple (c .before .before .before .before .before .before .before .args .s .now) (c .before .before .before .before .before .before .before .args .cursor) (c .before .before .before .before .before .before .before .args .at) (c .before .before .read-u32 .result) (c .before .before .before .if1 .taken) (c .before .before .read-u32 .ensures)) (c .before .before .before .before .before .before .before .pre .1)
+write-blob-requires c κs =
+    let c₃ = c .before .before .before in
+    let c₇ = c₃ .before .before .before .before in
+    laws.room-as (c₇ .args .dst .now) _ _ _
+    (laws.sent-simple (c₇ .args .s .now) (c₇ .args .cursor) (c₇ .args .at) (c .before .before .read-u32 .result) (c₃ .if1 .taken)
+    (c .before .before .read-u32 .ensures)) (c₇ .pre .1)
 
 write-number-requires : tie.Need-write-number-requires
-write-number-requires c κs = laws.room-as (c .before .before .before .before .before .args .dst .now) _ _ _ (laws.sent-cursor (c .before .before .before .before .before .args .s .now) (c .before .before .before .before .before .args .cursor) (c .before .before .before .before .before .args .at) (c .before .if1 .left)) (c .before .before .before .before .before .pre .1)
+write-number-requires c κs =
+    let c₅ = c .before .before .before .before .before in
+    laws.room-as (c₅ .args .dst .now) _ _ _ (laws.sent-cursor (c₅ .args .s .now) (c₅ .args .cursor) (c₅ .args .at) (c .before .if1 .left)) (c₅ .pre .1)
 
 same-length : tie.Need-same-length
 same-length c = search needs
 
 returns : tie.Need-returns
-returns c = laws.wrote-as _ _ _ _ _ _ (laws.sent-simple (c .before .before .before .before .before .before .before .before .before .before .args .s .now) (c .before .before .before .before .before .before .before .before .before .before .args .cursor) (c .before .before .before .before .before .before .before .before .before .before .args .at) (c .before .before .before .before .before .read-u32 .result) (c .before .before .before .before .before .before .if1 .taken) (c .before .before .before .before .before .read-u32 .ensures)) (c .before .before .write-blob .ensures)
+returns c =
+    let c₅ = c .before .before .before .before .before in
+    let c₁₀ = c₅ .before .before .before .before .before in
+    laws.wrote-as _ _ _ _ _ _
+    (laws.sent-simple (c₁₀ .args .s .now) (c₁₀ .args .cursor) (c₁₀ .args .at) (c₅ .read-u32 .result) (c₅ .before .if1 .taken) (c₅ .read-u32 .ensures))
+    (c .before .before .write-blob .ensures)
 
 same-length-2 : tie.Need-same-length-2
 same-length-2 c = search needs
 
 returns-2 : tie.Need-returns-2
-returns-2 c = laws.wrote-as _ _ _ _ _ _ (laws.sent-cursor (c .before .before .before .before .before .before .before .before .args .s .now) (c .before .before .before .before .before .before .before .before .args .cursor) (c .before .before .before .before .before .before .before .before .args .at) (c .before .before .before .before .if1 .left)) (c .before .before .write-number .ensures)
+returns-2 c =
+    let c₄ = c .before .before .before .before in
+    let c₈ = c₄ .before .before .before .before in
+    laws.wrote-as _ _ _ _ _ _ (laws.sent-cursor (c₈ .args .s .now) (c₈ .args .cursor) (c₈ .args .at) (c₄ .if1 .left)) (c .before .before .write-number .ensures)
 
 pub write-argument-spec : {M : Type 1} → statement M
 write-argument-spec =

@@ -5,13 +5,13 @@ use native.Mathlib.Omega.{arith}
 use Rattle.cursor.specs.At.{ArgsIn}
 use Rattle.cursor.specs.Steps.{in-more, in-first}
 use Rattle.buffer.specs.Copied as cop
-use Rattle.cmd.specs.Pack.{blob}
 use Rattle.cmd.specs.Laws as laws
 use Rattle.cmd.proofs.write_arguments.Statement.{statement}
 use Rattle.cmd.proofs.write_arguments.Tie as tie
 
 abbrev Inv-loop : tie.InvT-loop
-Inv-loop s cursor dst₀ to at₀ left₀ next₀ dst at left next = ArgsIn s left at × cop.Copied dst₀ to (laws.blobsAt s cursor left₀ at₀) dst next (laws.blobsAt s cursor left at)
+Inv-loop s cursor dst₀ to at₀ left₀ next₀ dst at left next =
+    ArgsIn s left at × cop.Copied dst₀ to (laws.blobsAt s cursor left₀ at₀) dst next (laws.blobsAt s cursor left at)
 
 abbrev μ-loop : tie.MeasureT-loop
 μ-loop s cursor dst₀ to at₀ left₀ next₀ dst at left next = left
@@ -38,7 +38,10 @@ cast-at : tie.Need-cast-at Inv-loop μ-loop
 cast-at c = omega arith
 
 add-at-2 : tie.Need-add-at-2 Inv-loop μ-loop
-add-at-2 c = let i = in-first _ _ _ (λ z. omega arith) (c .before .before .before .before .before .before .loop .inv .0) .inside in let e = c .read-u32 .ensures in omega arith
+add-at-2 c =
+    let i = in-first _ _ _ (λ z. omega arith) (c .before .before .before .before .before .before .loop .inv .0) .inside in
+    let e = c .read-u32 .ensures in
+    omega arith
 
 sub-left : tie.Need-sub-left Inv-loop μ-loop
 sub-left c = omega arith
@@ -53,7 +56,8 @@ loop-again c =
     let e = c .read-u32 .ensures in
     let q : l ≡ l - 1 + 1 = omega arith in (
       rw e (in-more _ l (l - 1) _ q (w .0) .1),
-      laws.blobs-step _ _ _ _ _ _ l (l - 1) _ _ _ _ _ q e (c .before .before .before .write-argument .ensures .0) (c .before .before .before .write-argument .ensures .1) (w .1),
+      laws.blobs-step _ _ _ _ _ _ l (l - 1) _ _ _ _ _ q e (c .before .before .before .write-argument .ensures .0)
+          (c .before .before .before .write-argument .ensures .1) (w .1),
     )
 
 same-length : tie.Need-same-length Inv-loop μ-loop
@@ -62,7 +66,8 @@ same-length c = c .before .loop .inv .1 .long
 returns : tie.Need-returns Inv-loop μ-loop
 returns c =
     let w = c .before .loop .inv .1 in
-    let z = laws.blobs-none (c .before .before .before .before .args .s .now) (c .before .before .before .before .args .cursor) (c .before .loop .left) (c .before .loop .at) (omega arith) in
+    let z = laws.blobs-none (c .before .before .before .before .args .s .now) (c .before .before .before .before .args .cursor) (c .before .loop .left)
+    (c .before .loop .at) (omega arith) in
     (cop.copied-ends _ _ _ _ _ _ z w, cop.copied-done _ _ _ _ _ _ z w)
 
 pub write-arguments-spec : {M : Type 1} → statement M

@@ -1,9 +1,7 @@
 -- `cmd::write_blob` meets its contract. Assumes nothing.
 use mathlib.Core.Path.{refl}
-use Prim.Native.Nat.{_-_}
 use native.Mathlib.Omega.{arith}
 use lib.ListN.{length}
-use Rattle.cmd.specs.Pack.{blob}
 use Rattle.cmd.specs.Laws as laws
 use borrow.Author.Needs.{needs}
 use Rattle.cmd.proofs.write_blob.Statement.{statement}
@@ -25,7 +23,8 @@ copy-to-requires c κs =
 add-f : tie.Need-add-f
 add-f c =
     let a = c .before .before .before .before .before .before .before .before .before .before .args in
-    let r = laws.blob-room (a .dst .now) (a .text .now) (a .to) (length (a .text .now)) refl (c .before .before .before .before .before .before .before .before .before .before .pre) in
+    let r = laws.blob-room (a .dst .now) (a .text .now) (a .to) (length (a .text .now)) refl
+    (c .before .before .before .before .before .before .before .before .before .before .pre) in
     let e = c .before .before .before .before .before .before .write-head .ensures .0 in
     omega arith
 
@@ -35,14 +34,16 @@ slice-aggregate-copy-to c = search needs
 copy-to-requires-2 : tie.Need-copy-to-requires-2
 copy-to-requires-2 c κs =
     let a = c .before .before .before .before .before .before .before .before .before .before .before .before .args in
-    let r = laws.blob-room (a .dst .now) (a .text .now) (a .to) (length (a .text .now)) refl (c .before .before .before .before .before .before .before .before .before .before .before .before .pre) in
+    let r = laws.blob-room (a .dst .now) (a .text .now) (a .to) (length (a .text .now)) refl
+    (c .before .before .before .before .before .before .before .before .before .before .before .before .pre) in
     let e = c .before .before .before .before .before .before .before .before .write-head .ensures .0 in
     omega arith
 
 add-result : tie.Need-add-result
 add-result c =
     let a = c .before .before .before .before .before .before .before .before .before .before .before .before .before .before .before .args in
-    let r = laws.blob-room (a .dst .now) (a .text .now) (a .to) (length (a .text .now)) refl (c .before .before .before .before .before .before .before .before .before .before .before .before .before .before .before .pre) in
+    let r = laws.blob-room (a .dst .now) (a .text .now) (a .to) (length (a .text .now)) refl
+    (c .before .before .before .before .before .before .before .before .before .before .before .before .before .before .before .pre) in
     let e = c .before .before .before .before .before .before .before .before .before .before .before .write-head .ensures .0 in
     omega arith
 
@@ -51,7 +52,11 @@ same-length c = search needs
 
 returns : tie.Need-returns
 returns c =
-    let w = laws.blob-wrote _ _ _ _ _ _ _ _ _ refl (c .before .before .before .before .before .before .before .before .before .before .before .before .before .before .before .pre) (c .before .before .before .before .before .before .before .before .before .before .before .write-head .ensures .0) (c .before .before .before .before .before .before .before .before .before .before .before .write-head .ensures .1) refl (c .before .before .before .before .before .before .before .copy-to .ensures) (c .before .before .copy-to2 .ensures) in
+    let c₇ = c .before .before .before .before .before .before .before in
+    let c₁₁ = c₇ .before .before .before .before in
+    let c₁₅ = c₁₁ .before .before .before .before in
+    let w = laws.blob-wrote _ _ _ _ _ _ _ _ _ refl (c₁₅ .pre) (c₁₁ .write-head .ensures .0) (c₁₁ .write-head .ensures .1) refl (c₇ .copy-to .ensures)
+    (c .before .before .copy-to2 .ensures) in
     (w .ends, w .is)
 
 pub write-blob-spec : {M : Type 1} → statement M

@@ -1,8 +1,6 @@
 -- `cmd::write_number` meets its contract. Assumes nothing.
-use Prim.Native.Nat.{_-_}
 use native.Mathlib.Omega.{arith}
 use Rattle.decimal.specs.Digits.{digits}
-use Rattle.cmd.specs.Pack.{blob}
 use Rattle.cmd.specs.Laws as laws
 use borrow.Author.Needs.{needs}
 use Rattle.cmd.proofs.write_number.Statement.{statement}
@@ -20,7 +18,8 @@ write-head-requires c κs =
 write-digits-requires : tie.Need-write-digits-requires
 write-digits-requires c κs =
     let a = c .before .before .before .before .before .before .before .args in
-    let r = laws.blob-room (a .dst .now) (digits (a .v)) (a .to) (c .before .before .before .before .countdigits .result) (c .before .before .before .before .countdigits .ensures) (c .before .before .before .before .before .before .before .pre) in
+    let r = laws.blob-room (a .dst .now) (digits (a .v)) (a .to) (c .before .before .before .before .countdigits .result)
+    (c .before .before .before .before .countdigits .ensures) (c .before .before .before .before .before .before .before .pre) in
     let e = c .before .before .before .write-head .ensures .0 in
     omega arith
 
@@ -30,7 +29,10 @@ slice-aggregate-copy-to c = search needs
 copy-to-requires : tie.Need-copy-to-requires
 copy-to-requires c κs =
     let a = c .before .before .before .before .before .before .before .before .before .before .before .before .args in
-    let r = laws.blob-room (a .dst .now) (digits (a .v)) (a .to) (c .before .before .before .before .before .before .before .before .before .countdigits .result) (c .before .before .before .before .before .before .before .before .before .countdigits .ensures) (c .before .before .before .before .before .before .before .before .before .before .before .before .pre) in
+    let r = laws.blob-room (a .dst .now) (digits (a .v)) (a .to)
+    (c .before .before .before .before .before .before .before .before .before .countdigits .result)
+    (c .before .before .before .before .before .before .before .before .before .countdigits .ensures)
+    (c .before .before .before .before .before .before .before .before .before .before .before .before .pre) in
     let e = c .before .before .before .before .before .before .before .before .write-head .ensures .0 in
     let f = c .before .before .before .before .write-digits .ensures .0 in
     omega arith
@@ -38,7 +40,10 @@ copy-to-requires c κs =
 add-result : tie.Need-add-result
 add-result c =
     let a = c .before .before .before .before .before .before .before .before .before .before .before .before .before .before .before .args in
-    let r = laws.blob-room (a .dst .now) (digits (a .v)) (a .to) (c .before .before .before .before .before .before .before .before .before .before .before .before .countdigits .result) (c .before .before .before .before .before .before .before .before .before .before .before .before .countdigits .ensures) (c .before .before .before .before .before .before .before .before .before .before .before .before .before .before .before .pre) in
+    let r = laws.blob-room (a .dst .now) (digits (a .v)) (a .to)
+    (c .before .before .before .before .before .before .before .before .before .before .before .before .countdigits .result)
+    (c .before .before .before .before .before .before .before .before .before .before .before .before .countdigits .ensures)
+    (c .before .before .before .before .before .before .before .before .before .before .before .before .before .before .before .pre) in
     let e = c .before .before .before .before .before .before .before .before .before .before .before .write-head .ensures .0 in
     let f = c .before .before .before .before .before .before .before .write-digits .ensures .0 in
     omega arith
@@ -48,7 +53,11 @@ same-length c = search needs
 
 returns : tie.Need-returns
 returns c =
-    let w = laws.blob-wrote _ _ _ _ _ _ _ _ _ (c .before .before .before .before .before .before .before .before .before .before .before .before .countdigits .ensures) (c .before .before .before .before .before .before .before .before .before .before .before .before .before .before .before .pre) (c .before .before .before .before .before .before .before .before .before .before .before .write-head .ensures .0) (c .before .before .before .before .before .before .before .before .before .before .before .write-head .ensures .1) (c .before .before .before .before .before .before .before .write-digits .ensures .0) (c .before .before .before .before .before .before .before .write-digits .ensures .1) (c .before .before .copy-to .ensures) in
+    let c₇ = c .before .before .before .before .before .before .before in
+    let c₁₁ = c₇ .before .before .before .before in
+    let c₁₅ = c₁₁ .before .before .before .before in
+    let w = laws.blob-wrote _ _ _ _ _ _ _ _ _ (c₁₁ .before .countdigits .ensures) (c₁₅ .pre) (c₁₁ .write-head .ensures .0) (c₁₁ .write-head .ensures .1)
+    (c₇ .write-digits .ensures .0) (c₇ .write-digits .ensures .1) (c .before .before .copy-to .ensures) in
     (w .ends, w .is)
 
 pub write-number-spec : {M : Type 1} → statement M

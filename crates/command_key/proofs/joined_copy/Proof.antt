@@ -40,7 +40,10 @@ part-copy-to-start : tie.Need-part-copy-to-start Inv-loop μ-loop
 part-copy-to-start c = omega arith
 
 part-copy-to-end : tie.Need-part-copy-to-end Inv-loop μ-loop
-part-copy-to-end c = let i = in-first _ _ _ (λ z. omega arith) (c .before .before .before .loop .inv .0) .inside in let e = c .before .read-u32 .ensures in omega arith
+part-copy-to-end c =
+    let i = in-first _ _ _ (λ z. omega arith) (c .before .before .before .loop .inv .0) .inside in
+    let e = c .before .read-u32 .ensures in
+    omega arith
 
 copy-to-requires : tie.Need-copy-to-requires Inv-loop μ-loop
 copy-to-requires c κs =
@@ -72,7 +75,9 @@ loop-again c =
     let q : l ≡ l - 1 + 1 = omega arith in
     let v = in-more _ l (l - 1) _ q (w .0) in
     let n = laws.cut-length _ _ _ e (v .0) in
-    let x = cop.copied-next _ _ _ _ _ _ _ _ _ (c .before .before .before .before .before .before .before .loop .next + c .before .before .before .before .before .read-u32 .result) (laws.joined-cut _ l (l - 1) _ _ q (w .0) e) (omega arith) (c .before .before .copy-to .ensures) (w .1) in
+    let x = cop.copied-next _ _ _ _ _ _ _ _ _
+    (c .before .before .before .before .before .before .before .loop .next + c .before .before .before .before .before .read-u32 .result)
+    (laws.joined-cut _ l (l - 1) _ _ q (w .0) e) (omega arith) (c .before .before .copy-to .ensures) (w .1) in
     (rw e (v .1), x)
 
 same-length : tie.Need-same-length Inv-loop μ-loop

@@ -28,7 +28,11 @@ cast-n : tie.Need-cast-n Inv-loop μ-loop
 cast-n c = omega arith
 
 add-total : tie.Need-add-total Inv-loop μ-loop
-add-total c = let i = in-first _ _ _ (λ z. omega arith) (c .before .before .loop .inv .0) .inside in let e = c .read-u32 .ensures in let b = c .before .before .loop .inv .2 in omega arith
+add-total c =
+    let i = in-first _ _ _ (λ z. omega arith) (c .before .before .loop .inv .0) .inside in
+    let e = c .read-u32 .ensures in
+    let b = c .before .before .loop .inv .2 in
+    omega arith
 
 add-at : tie.Need-add-at Inv-loop μ-loop
 add-at c = let i = in-first _ _ _ (λ z. omega arith) (c .before .before .loop .inv .0) .room in omega arith

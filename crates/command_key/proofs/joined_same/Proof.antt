@@ -11,7 +11,8 @@ use Rattle.command_key.proofs.joined_same.Statement.{statement}
 use Rattle.command_key.proofs.joined_same.Tie as tie
 
 abbrev Inv-loop : tie.InvT-loop
-Inv-loop s t at₀ left₀ done₀ at left done = ArgsIn s left at × (done ≤ length t) × (same t (laws.joinedAt s left₀ at₀) ≡ same (drop done t) (laws.joinedAt s left at))
+Inv-loop s t at₀ left₀ done₀ at left done =
+    ArgsIn s left at × (done ≤ length t) × (same t (laws.joinedAt s left₀ at₀) ≡ same (drop done t) (laws.joinedAt s left at))
 
 abbrev μ-loop : tie.MeasureT-loop
 μ-loop s t at₀ left₀ done₀ at left done = left
@@ -51,7 +52,10 @@ part-same-at-start : tie.Need-part-same-at-start Inv-loop μ-loop
 part-same-at-start c = omega arith
 
 part-same-at-end : tie.Need-part-same-at-end Inv-loop μ-loop
-part-same-at-end c = let i = in-first _ _ _ (λ z. omega arith) (c .before .before .before .loop .inv .0) .inside in let e = c .before .read-u32 .ensures in omega arith
+part-same-at-end c =
+    let i = in-first _ _ _ (λ z. omega arith) (c .before .before .before .loop .inv .0) .inside in
+    let e = c .before .read-u32 .ensures in
+    omega arith
 
 same-at-requires : tie.Need-same-at-requires Inv-loop μ-loop
 same-at-requires c κs =
@@ -68,7 +72,8 @@ returns-2 c =
     let l : ℕ = c .before .before .before .before .before .before .loop .left in
     let w = c .before .before .before .before .before .before .loop .inv in
     let d = w .1 in
-    sym (w .2 ∙ laws.same-no _ _ l (l - 1) _ _ _ (omega arith) (w .0) (c .before .before .before .before .read-u32 .ensures) d (omega arith) (sym (c .before .same-at .ensures) ∙ c .if2 .left))
+    sym (w .2 ∙ laws.same-no _ _ l (l - 1) _ _ _ (omega arith) (w .0) (c .before .before .before .before .read-u32 .ensures) d (omega arith)
+    (sym (c .before .same-at .ensures) ∙ c .if2 .left))
 
 sub-left : tie.Need-sub-left Inv-loop μ-loop
 sub-left c = omega arith

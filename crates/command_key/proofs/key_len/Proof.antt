@@ -1,6 +1,5 @@
 -- `command_key::key_len` meets its contract. Assumes nothing.
 use mathlib.Core.Path.{sym, ap, _∙_}
-use Prim.Native.Nat.{_-_}
 use native.Mathlib.Omega.{arith}
 use lib.ListN.{length}
 use Rattle.command_key.specs.Keys as keys
@@ -33,19 +32,24 @@ sub-result-2 c = keys.named-in _ _ (c .before .before .before .before .before .b
 add-result : tie.Need-add-result
 add-result c =
     let v = keys.named-in _ _ (c .before .before .before .before .before .before .pre) _ _ _ (c .before .before .before .key3 .given .1) in
-    let w = laws.space (c .before .before .before .before .before .before .args .s .now) (c .before .before .before .key3 .given .0 .0) (c .before .before .before .key3 .given .0 .1 .0) (c .before .before .before .key3 .given .0 .1 .1 .0) (v .0) (v .1) .name in
+    let w = laws.space (c .before .before .before .before .before .before .args .s .now) (c .before .before .before .key3 .given .0 .0)
+    (c .before .before .before .key3 .given .0 .1 .0) (c .before .before .before .key3 .given .0 .1 .1 .0) (v .0) (v .1) .name in
     let a = v .0 .1 in
     let b = v .2 in
     let e = c .before .name-len .ensures in
     omega arith
 
 sub-result-3 : tie.Need-sub-result-3
-sub-result-3 c = keys.named-in _ _ (c .before .before .before .before .before .before .before .pre) _ _ _ (c .before .before .before .before .key3 .given .1) .1 .0
+sub-result-3 c =
+    let c₄ = c .before .before .before .before in
+    let c₇ = c₄ .before .before .before in
+    keys.named-in _ _ (c₇ .pre) _ _ _ (c₄ .key3 .given .1) .1 .0
 
 add-result-2 : tie.Need-add-result-2
 add-result-2 c =
     let v = keys.named-in _ _ (c .before .before .before .before .before .before .before .pre) _ _ _ (c .before .before .before .before .key3 .given .1) in
-    let w = laws.space (c .before .before .before .before .before .before .before .args .s .now) (c .before .before .before .before .key3 .given .0 .0) (c .before .before .before .before .key3 .given .0 .1 .0) (c .before .before .before .before .key3 .given .0 .1 .1 .0) (v .0) (v .1) .name in
+    let w = laws.space (c .before .before .before .before .before .before .before .args .s .now) (c .before .before .before .before .key3 .given .0 .0)
+    (c .before .before .before .before .key3 .given .0 .1 .0) (c .before .before .before .before .key3 .given .0 .1 .1 .0) (v .0) (v .1) .name in
     let a = v .0 .1 in
     let b = v .1 .1 in
     let d = v .2 in
@@ -53,7 +57,9 @@ add-result-2 c =
     omega arith
 
 returns : tie.Need-returns
-returns c = let q = c .before .before .key .given .1 in sym (keys.range-length _ _ (keys.part-in _ _ (c .before .before .before .before .before .pre) _ q)) ∙ ap length (keys.part-bytes _ _ (c .before .before .before .before .before .pre) _ q)
+returns c =
+    let c₅ = c .before .before .before .before .before in
+    let q = c .before .before .key .given .1 in sym (keys.range-length _ _ (keys.part-in _ _ (c₅ .pre) _ q)) ∙ ap length (keys.part-bytes _ _ (c₅ .pre) _ q)
 
 returns-2 : tie.Need-returns-2
 returns-2 c = c .joined-len .ensures ∙ ap length (keys.joined-bytes _ _ (c .before .before .before .before .before .pre) _ (c .before .before .key2 .given .1))
@@ -62,7 +68,8 @@ returns-3 : tie.Need-returns-3
 returns-3 c =
     let q = c .before .before .before .before .key3 .given .1 in
     let v = keys.named-in _ _ (c .before .before .before .before .before .before .before .pre) _ _ _ q in
-    let a = laws.space (c .before .before .before .before .before .before .before .args .s .now) (c .before .before .before .before .key3 .given .0 .0) (c .before .before .before .before .key3 .given .0 .1 .0) (c .before .before .before .before .key3 .given .0 .1 .1 .0) (v .0) (v .1) .all in
+    let a = laws.space (c .before .before .before .before .before .before .before .args .s .now) (c .before .before .before .before .key3 .given .0 .0)
+    (c .before .before .before .before .key3 .given .0 .1 .0) (c .before .before .before .before .key3 .given .0 .1 .1 .0) (v .0) (v .1) .all in
     let e = c .before .before .name-len .ensures in
     let z = ap length (keys.named-bytes _ _ (c .before .before .before .before .before .before .before .pre) _ _ _ q) in
     omega arith

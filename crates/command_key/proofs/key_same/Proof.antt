@@ -1,6 +1,5 @@
 -- `command_key::key_same` meets its contract. Assumes nothing.
 use mathlib.Core.Path.{ap, _∙_}
-use Prim.Native.Nat.{_-_}
 use Rattle.command_key.specs.Keys as keys
 use Rattle.buffer.specs.Same.{same}
 use borrow.Author.Needs.{needs}
@@ -29,13 +28,20 @@ named-same-requires : tie.Need-named-same-requires
 named-same-requires c κs = keys.named-in _ _ (c .before .before .before .before .before .pre) _ _ _ (c .before .key3 .given .1)
 
 returns : tie.Need-returns
-returns c = c .same .ensures ∙ ap (same _) (c .before .bytes-in .ensures ∙ keys.part-bytes _ _ (c .before .before .before .before .before .before .before .pre) _ (c .before .before .before .key .given .1))
+returns c =
+    let c₃ = c .before .before .before in
+    let c₇ = c₃ .before .before .before .before in
+    c .same .ensures ∙ ap (same _) (c .before .bytes-in .ensures ∙ keys.part-bytes _ _ (c₇ .pre) _ (c₃ .key .given .1))
 
 returns-2 : tie.Need-returns-2
-returns-2 c = c .joined-same .ensures ∙ ap (same _) (keys.joined-bytes _ _ (c .before .before .before .before .before .before .pre) _ (c .before .before .key2 .given .1))
+returns-2 c =
+    let c₆ = c .before .before .before .before .before .before in
+    c .joined-same .ensures ∙ ap (same _) (keys.joined-bytes _ _ (c₆ .pre) _ (c .before .before .key2 .given .1))
 
 returns-3 : tie.Need-returns-3
-returns-3 c = c .named-same .ensures ∙ ap (same _) (keys.named-bytes _ _ (c .before .before .before .before .before .before .pre) _ _ _ (c .before .before .key3 .given .1))
+returns-3 c =
+    c .named-same .ensures ∙ ap (same _)
+    (keys.named-bytes _ _ (c .before .before .before .before .before .before .pre) _ _ _ (c .before .before .key3 .given .1))
 
 pub key-same-spec : {M : Type 1} → statement M
 key-same-spec =

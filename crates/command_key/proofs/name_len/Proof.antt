@@ -1,5 +1,4 @@
 -- `command_key::name_len` meets its contract. Assumes nothing.
-use Prim.Native.Nat.{_-_}
 use Rattle.command_key.specs.Key.{nameBytes}
 use Rattle.command_key.proofs.name_len.Statement.{statement}
 use Rattle.command_key.proofs.name_len.Tie as tie

@@ -1,6 +1,5 @@
 -- `commands::is_multi_key` meets its contract. Assumes nothing.
 use mathlib.Core.Path.{sym, _∙_}
-use Rattle.buffer.specs.Ascii.{ascii}
 use Rattle.commands.specs.MultiKey.{multiKey}
 use Rattle.commands.proofs.Agrees.{agrees}
 use borrow.Author.Needs.{needs}
@@ -25,11 +24,15 @@ same-requires-2 c κs = search needs
 
 returns-2 : tie.Need-returns-2
 unfolding multiKey
-returns-2 c = rw (sym (agrees _ _ _ (c .before .before .before .before .same .ensures)) ∙ c .before .before .before .if1 .left, sym (agrees _ _ _ (c .before .same2 .ensures)) ∙ c .if2 .taken)
+returns-2 c =
+    let c₃ = c .before .before .before in
+    rw (sym (agrees _ _ _ (c₃ .before .same .ensures)) ∙ c₃ .if1 .left, sym (agrees _ _ _ (c .before .same2 .ensures)) ∙ c .if2 .taken)
 
 returns-3 : tie.Need-returns-3
 unfolding multiKey
-returns-3 c = rw (sym (agrees _ _ _ (c .before .before .before .before .same .ensures)) ∙ c .before .before .before .if1 .left, sym (agrees _ _ _ (c .before .same2 .ensures)) ∙ c .if2 .left)
+returns-3 c =
+    let c₃ = c .before .before .before in
+    rw (sym (agrees _ _ _ (c₃ .before .same .ensures)) ∙ c₃ .if1 .left, sym (agrees _ _ _ (c .before .same2 .ensures)) ∙ c .if2 .left)
 
 pub is-multi-key-spec : {M : Type 1} → statement M
 is-multi-key-spec =

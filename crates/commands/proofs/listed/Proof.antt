@@ -21,7 +21,8 @@ abbrev μ-loop : tie.MeasureT-loop
 -- the name that stands at `at` was compared
 compared : (c : tie.After-same Inv-loop μ-loop) →
     let name = c .before .before .before .before .before .before .args .name .now in
-    c .same .result ≡ same (take (length name) (drop (c .before .before .before .loop .at + 1) (c .before .before .before .before .before .before .args .rows .now))) name
+    c .same .result ≡ same
+    (take (length name) (drop (c .before .before .before .loop .at + 1) (c .before .before .before .before .before .before .args .rows .now))) name
 compared c =
     let name = c .before .before .before .before .before .before .args .name .now in
     let at = c .before .before .before .loop .at in
@@ -59,7 +60,8 @@ loop-less : tie.Need-loop-less Inv-loop μ-loop
 loop-less c = omega arith
 
 loop-again : tie.Need-loop-again Inv-loop μ-loop
-loop-again c = (omega arith, λ xs e. passed _ _ _ xs (c .before .before .before .before .loop .inv .1 xs e) (omega arith) (sym (compared (c .before)) ∙ c .if1 .left))
+loop-again c =
+    (omega arith, λ xs e. passed _ _ _ xs (c .before .before .before .before .loop .inv .1 xs e) (omega arith) (sym (compared (c .before)) ∙ c .if1 .left))
 
 returns-2 : tie.Need-returns-2 Inv-loop μ-loop
 returns-2 c = λ xs e. sym (none-left _ _ _ xs (c .before .loop .inv .1 xs e) (omega arith))

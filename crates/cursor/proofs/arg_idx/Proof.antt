@@ -9,7 +9,8 @@ use Rattle.cursor.proofs.arg_idx.Statement.{statement}
 use Rattle.cursor.proofs.arg_idx.Tie as tie
 
 abbrev Inv-loop : tie.InvT-loop
-Inv-loop s idx at₀ left₀ i₀ before₀ at left i before = ArgsIn s left at × (index.argIdx (argsAt s left₀ at₀) idx ≡ index.argIdxFrom before (argsAt s left at) i) × (before ≤ at)
+Inv-loop s idx at₀ left₀ i₀ before₀ at left i before =
+    ArgsIn s left at × (index.argIdx (argsAt s left₀ at₀) idx ≡ index.argIdxFrom before (argsAt s left at) i) × (before ≤ at)
 
 abbrev μ-loop : tie.MeasureT-loop
 μ-loop s idx at₀ left₀ i₀ before₀ at left i before = i
@@ -30,7 +31,11 @@ cast-size : tie.Need-cast-size Inv-loop μ-loop
 cast-size c = omega arith
 
 add-before : tie.Need-add-before Inv-loop μ-loop
-add-before c = let i = laws.in-first _ _ _ (c .before .if1 .left) (c .before .before .before .loop .inv .0) .inside in let e = c .read-u32 .ensures in let b = c .before .before .before .loop .inv .2 in omega arith
+add-before c =
+    let i = laws.in-first _ _ _ (c .before .if1 .left) (c .before .before .before .loop .inv .0) .inside in
+    let e = c .read-u32 .ensures in
+    let b = c .before .before .before .loop .inv .2 in
+    omega arith
 
 add-at : tie.Need-add-at Inv-loop μ-loop
 add-at c = let i = laws.in-first _ _ _ (c .before .if1 .left) (c .before .before .before .loop .inv .0) .room in omega arith

@@ -43,7 +43,8 @@ loop-again c =
     let w = c .before .before .loop .inv in
     let e = c .read-u32 .ensures in
     let q : l ≡ l - 1 + 1 = omega arith in
-    let z : c .before .before .loop .at + 5 + c .read-u32 .result ≡ nextAt (c .before .before .before .before .args .s .now) (c .before .before .loop .at) = ap (λ (n : ℕ). c .before .before .loop .at + 5 + n) e in
+    let z : c .before .before .loop .at + 5 + c .read-u32 .result
+    ≡ nextAt (c .before .before .before .before .args .s .now) (c .before .before .loop .at) = ap (λ (n : ℕ). c .before .before .loop .at + 5 + n) e in
     rw z (laws.in-more _ l (l - 1) _ q (w .0) .1, w .1 ∙ laws.end-more _ l (l - 1) _ q)
 
 returns : tie.Need-returns Inv-loop μ-loop

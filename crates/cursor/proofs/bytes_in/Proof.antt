@@ -1,5 +1,4 @@
 -- `cursor::bytes_in` meets its contract. Assumes nothing.
-use Prim.Native.Nat.{_-_}
 use Rattle.buffer.specs.Part.{part}
 use borrow.Author.Needs.{needs}
 use Rattle.cursor.proofs.bytes_in.Statement.{statement}

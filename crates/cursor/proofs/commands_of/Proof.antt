@@ -1,5 +1,4 @@
 -- `cursor::commands_of` meets its contract. Assumes nothing.
-use Prim.Native.Nat.{_-_}
 use borrow.Author.Needs.{needs}
 use Rattle.cursor.proofs.commands_of.Statement.{statement}
 use Rattle.cursor.proofs.commands_of.Tie as tie

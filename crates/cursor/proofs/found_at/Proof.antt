@@ -1,6 +1,6 @@
 -- `cursor::found_at` meets its contract. Assumes nothing.
 use mathlib.Core.Path.{sym, ap, _∙_}
-use Prim.Native.Nat.{ℕ, _+_, _-_}
+use Prim.Native.Nat.{ℕ, _+_}
 use native.Mathlib.Omega.{arith}
 use Rattle.cursor.specs.Steps as laws
 use Rattle.cursor.specs.Index as index
@@ -30,21 +30,35 @@ add-start : tie.Need-add-start
 add-start c = let i = laws.in-first _ _ _ (c .before .before .before .if1 .left) (c .before .before .before .before .before .pre .0) .room in omega arith
 
 add-end : tie.Need-add-end
-add-end c = let i = laws.in-first _ _ _ (c .before .before .before .if1 .left) (c .before .before .before .before .before .pre .0) .inside in let e = c .read-u32 .ensures in omega arith
+add-end c =
+    let i = laws.in-first _ _ _ (c .before .before .before .if1 .left) (c .before .before .before .before .before .pre .0) .inside in
+    let e = c .read-u32 .ensures in
+    omega arith
 
 add-if3 : tie.Need-add-if3
-add-if3 c = let i = laws.in-first _ _ _ (c .before .before .before .if1 .left) (c .before .before .before .before .before .pre .0) .inside in let e = c .read-u32 .ensures in let b = c .before .before .before .before .before .pre .1 in omega arith
+add-if3 c =
+    let i = laws.in-first _ _ _ (c .before .before .before .if1 .left) (c .before .before .before .before .before .pre .0) .inside in
+    let e = c .read-u32 .ensures in
+    let b = c .before .before .before .before .before .pre .1 in
+    omega arith
 
 returns-3 : tie.Need-returns-3
 returns-3 c =
-    let e = c .before .read-u32 .ensures in
-    (sym (index.idx-empty _ _ _ _ _ (laws.one-more _ (c .before .before .before .before .if1 .left)) (c .before .before .before .before .before .before .pre .0) (c .before .before .if2 .left) (ap (λ (n : ℕ). c .before .before .before .before .before .before .args .before + n) (sym e) ∙ c .if3 .taken)), tt)
+    let c₄ = c .before .before .before .before in
+    let e = c .before .read-u32 .ensures in (
+      sym (index.idx-empty _ _ _ _ _ (laws.one-more _ (c₄ .if1 .left)) (c₄ .before .before .pre .0) (c .before .before .if2 .left)
+          (ap (λ (n : ℕ). c₄ .before .before .args .before + n) (sym e) ∙ c .if3 .taken)),
+      tt,
+    )
 
 returns-4 : tie.Need-returns-4
 returns-4 c =
     let e = c .before .read-u32 .ensures in
     let i = laws.in-first _ _ _ (c .before .before .before .before .if1 .left) (c .before .before .before .before .before .before .pre .0) .inside in (
-      sym (index.idx-found _ _ _ _ _ (laws.one-more _ (c .before .before .before .before .if1 .left)) (c .before .before .before .before .before .before .pre .0) (c .before .before .if2 .left) _ (λ z. c .if3 .left (ap (λ (n : ℕ). c .before .before .before .before .before .before .args .before + n) e ∙ z)) (ap (λ (n : ℕ). c .before .before .before .before .before .before .args .at + 5 + n) e)),
+      sym (index.idx-found _ _ _ _ _ (laws.one-more _ (c .before .before .before .before .if1 .left))
+          (c .before .before .before .before .before .before .pre .0) (c .before .before .if2 .left) _
+          (λ z. c .if3 .left (ap (λ (n : ℕ). c .before .before .before .before .before .before .args .before + n) e ∙ z))
+          (ap (λ (n : ℕ). c .before .before .before .before .before .before .args .at + 5 + n) e)),
       (omega arith, omega arith),
     )
 

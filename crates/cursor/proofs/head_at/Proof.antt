@@ -1,5 +1,5 @@
 -- `cursor::head_at` meets its contract. Assumes nothing.
-use Prim.Native.Nat.{_+_, _-_}
+use Prim.Native.Nat.{_+_}
 use lib.ListN.{getD}
 use borrow.Author.Needs.{needs}
 use Rattle.cursor.proofs.head_at.Statement.{statement}

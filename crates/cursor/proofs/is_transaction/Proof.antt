@@ -1,6 +1,5 @@
 -- `cursor::is_transaction` meets its contract. Assumes nothing.
 use native.Mathlib.Nat.{div-one}
-use Prim.Native.Nat.{_-_}
 use lib.ListN.{getD}
 use Rattle.cursor.specs.At.{recordAt}
 use borrow.Author.Needs.{needs}

@@ -1,5 +1,4 @@
 -- `cursor::next_arg` meets its contract. Assumes nothing.
-use Prim.Native.Nat.{_-_}
 use native.Mathlib.Omega.{arith}
 use Rattle.cursor.specs.Steps as laws
 use borrow.Author.Tests.{eq-eqb, ne-eqb}

@@ -11,7 +11,8 @@ crlf-at-requires : tie.Need-crlf-at-requires
 crlf-at-requires c κs = search needs
 
 add-t6 : tie.Need-add-t6
-add-t6 c = omega (arith, crlf-in (c .before .before .before .args .s .now) (c .before .before .before .args .e) (sym (c .before .crlf-at .ensures) ∙ c .if1 .taken))
+add-t6 c =
+    omega (arith, crlf-in (c .before .before .before .args .s .now) (c .before .before .before .args .e) (sym (c .before .crlf-at .ensures) ∙ c .if1 .taken))
 
 returns : tie.Need-returns
 unfolding endedDef

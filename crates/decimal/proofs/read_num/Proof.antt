@@ -11,13 +11,15 @@ use Rattle.decimal.proofs.read_num.Statement.{statement}
 use Rattle.decimal.proofs.read_num.Tie as tie
 
 abbrev Inv-loop : tie.InvT-loop
-Inv-loop s at lim tenth i₀ v₀ i v = (at ≤ i) × (i ≤ length s) × (v ≤ lim) × (at + lead (drop at s) ≡ i + lead (drop i s)) × (valAcc 0 (drop at s) ≡ valAcc v (drop i s))
+Inv-loop s at lim tenth i₀ v₀ i v =
+    (at ≤ i) × (i ≤ length s) × (v ≤ lim) × (at + lead (drop at s) ≡ i + lead (drop i s)) × (valAcc 0 (drop at s) ≡ valAcc v (drop i s))
 
 abbrev μ-loop : tie.MeasureT-loop
 μ-loop s at lim tenth i₀ v₀ i v = length s - i
 
 -- a digit stands at i
-at-digit : (c : tie.Then3 Inv-loop μ-loop) → Turn (c .before .before .before .before .before .before .before .args .s .now) (c .before .before .loop .i) (c .before .before .loop .v)
+at-digit : (c : tie.Then3 Inv-loop μ-loop) → Turn (c .before .before .before .before .before .before .before .args .s .now) (c .before .before .loop .i)
+    (c .before .before .loop .v)
 at-digit c = turn _ _ _ (sym (c .before .digit-at .ensures) ∙ c .if3 .taken)
 
 -- no digit stands at i: none begin there, and the value stays
@@ -72,7 +74,9 @@ sub-if5 : tie.Need-sub-if5 Inv-loop μ-loop
 sub-if5 c = let t = at-digit (c .before .before .before) in omega arith
 
 returns-4 : tie.Need-returns-4 Inv-loop μ-loop
-returns-4 c = let t = at-digit (c .before .before .before .before) in sym (num-over _ _ _ (c .before .before .before .before .before .before .before .if2 .left) (omega arith))
+returns-4 c =
+    let t = at-digit (c .before .before .before .before) in
+    sym (num-over _ _ _ (c .before .before .before .before .before .before .before .if2 .left) (omega arith))
 
 mul-v : tie.Need-mul-v Inv-loop μ-loop
 mul-v c = let t = at-digit (c .before .before .before .before) in omega arith
@@ -87,7 +91,15 @@ loop-less : tie.Need-loop-less Inv-loop μ-loop
 loop-less c = let t = at-digit (c .before .before .before .before) in omega arith
 
 loop-again : tie.Need-loop-again Inv-loop μ-loop
-loop-again c = let t = at-digit (c .before .before .before .before) in (omega arith, omega arith, omega arith, omega arith, c .before .before .before .before .before .before .loop .inv .4 ∙ rw (c .before .wide .ensures) (t .joins))
+loop-again c =
+    let t = at-digit (c .before .before .before .before) in (
+      omega arith,
+      omega arith,
+      omega arith,
+      omega arith,
+      c .before .before .before .before .before .before .loop .inv .4
+          ∙ rw (c .before .wide .ensures) (t .joins),
+    )
 
 returns-5 : tie.Need-returns-5 Inv-loop μ-loop
 returns-5 c = let n = at-stop (c .before) in sym (num-none _ _ _ (c .before .before .before .before .if2 .left) (omega arith))
@@ -96,7 +108,11 @@ ended-requires-2 : tie.Need-ended-requires-2 Inv-loop μ-loop
 ended-requires-2 c κs = search needs
 
 returns-6 : tie.Need-returns-6 Inv-loop μ-loop
-returns-6 c = let n = at-stop (c .before .before) in c .ended2 .ensures ∙ sym (num-more _ _ _ _ _ (c .before .before .before .before .before .if2 .left) (omega arith) (omega arith) (c .before .before .before .before .loop .inv .4 ∙ n .1) ∙ fin-within _ _ _ _ (omega arith))
+returns-6 c =
+    let n = at-stop (c .before .before) in
+    c .ended2 .ensures ∙ sym
+    (num-more _ _ _ _ _ (c .before .before .before .before .before .if2 .left) (omega arith) (omega arith)
+    (c .before .before .before .before .loop .inv .4 ∙ n .1) ∙ fin-within _ _ _ _ (omega arith))
 
 pub read-num-spec : {M : Type 1} → statement M
 read-num-spec =

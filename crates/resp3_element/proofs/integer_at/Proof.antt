@@ -32,20 +32,35 @@ enum-told : tie.Need-enum-told
 enum-told c = search needs
 
 returns-3 : tie.Need-returns-3
-returns-3 c = sym (paths.integer-minus _ _ (sym (c .before .before .before .before .before .before .before .first-byte .ensures) ∙ c .before .before .before .before .before .before .if1 .left) (c .before .before .before .if3 .taken) (sym (c .before .before .read-num .ensures) ∙ c .enum-told .given .1))
+returns-3 c =
+    let c₃ = c .before .before .before in
+    let c₆ = c₃ .before .before .before in
+    sym (paths.integer-minus _ _ (sym (c₆ .before .first-byte .ensures) ∙ c₆ .if1 .left) (c₃ .if3 .taken)
+    (sym (c .before .before .read-num .ensures) ∙ c .enum-told .given .1))
 
 returns-4 : tie.Need-returns-4
-returns-4 c = sym (paths.integer-minus _ _ (sym (c .before .before .before .before .before .before .before .before .before .first-byte .ensures) ∙ c .before .before .before .before .before .before .before .before .if1 .left) (c .before .before .before .before .before .if3 .taken) (sym (c .before .before .before .before .read-num .ensures) ∙ c .before .before .n .given .1) ∙ rw (eq-eqb _ _ (c .if4 .taken)))
+returns-4 c =
+    let c₄ = c .before .before .before .before in
+    let c₈ = c₄ .before .before .before .before in
+    sym (paths.integer-minus _ _ (sym (c₈ .before .first-byte .ensures) ∙ c₈ .if1 .left) (c₄ .before .if3 .taken)
+    (sym (c₄ .read-num .ensures) ∙ c .before .before .n .given .1) ∙ rw (eq-eqb _ _ (c .if4 .taken)))
 
 negative-requires : tie.Need-negative-requires
-negative-requires c κs = let k = num-bounds _ _ _ _ _ (sym (c .before .before .before .before .read-num .ensures) ∙ c .before .before .n .given .1) in omega arith
+negative-requires c κs =
+    let k = num-bounds _ _ _ _ _ (sym (c .before .before .before .before .read-num .ensures) ∙ c .before .before .n .given .1) in
+    omega arith
 
 returns-5 : tie.Need-returns-5
 returns-5 c =
     let k = num-bounds _ _ _ _ _ (sym (c .before .before .before .before .before .read-num .ensures) ∙ c .before .before .before .n .given .1) in
     let j = c .before .if4 .left in
     ap Is (minus.of-negsuc _ _ (c .negative .ensures) (omega arith))
-    ∙ sym (paths.integer-minus _ _ (sym (c .before .before .before .before .before .before .before .before .before .before .first-byte .ensures) ∙ c .before .before .before .before .before .before .before .before .before .if1 .left) (c .before .before .before .before .before .before .if3 .taken) (sym (c .before .before .before .before .before .read-num .ensures) ∙ c .before .before .before .n .given .1) ∙ rw (ne-eqb _ _ (c .before .if4 .left)))
+    ∙ sym (paths.integer-minus _ _
+    (sym (c .before .before .before .before .before .before .before .before .before .before .first-byte .ensures)
+    ∙ c .before .before .before .before .before .before .before .before .before .if1 .left)
+    (c .before .before .before .before .before .before .if3 .taken)
+    (sym (c .before .before .before .before .before .read-num .ensures) ∙ c .before .before .before .n .given .1)
+    ∙ rw (ne-eqb _ _ (c .before .if4 .left)))
 
 read-num-requires-2 : tie.Need-read-num-requires-2
 read-num-requires-2 c κs = search needs
@@ -57,7 +72,11 @@ enum-told-2 : tie.Need-enum-told-2
 enum-told-2 c = search needs
 
 returns-6 : tie.Need-returns-6
-returns-6 c = sym (paths.integer-plus _ _ (sym (c .before .before .before .before .before .before .before .first-byte .ensures) ∙ c .before .before .before .before .before .before .if1 .left) (c .before .before .before .if3 .left) (sym (c .before .before .read-num2 .ensures) ∙ c .enum-told2 .given .1))
+returns-6 c =
+    let c₃ = c .before .before .before in
+    let c₆ = c₃ .before .before .before in
+    sym (paths.integer-plus _ _ (sym (c₆ .before .first-byte .ensures) ∙ c₆ .if1 .left) (c₃ .if3 .left)
+    (sym (c .before .before .read-num2 .ensures) ∙ c .enum-told2 .given .1))
 
 positive-requires : tie.Need-positive-requires
 positive-requires c κs = let k = num-bounds _ _ _ _ _ (sym (c .before .before .before .read-num2 .ensures) ∙ c .before .n2 .given .1) in omega arith
@@ -66,7 +85,10 @@ returns-7 : tie.Need-returns-7
 returns-7 c =
     let k = num-bounds _ _ _ _ _ (sym (c .before .before .before .before .read-num2 .ensures) ∙ c .before .before .n2 .given .1) in
     ap Is (minus.of-pos _ _ (c .positive .ensures) (omega arith))
-    ∙ sym (paths.integer-plus _ _ (sym (c .before .before .before .before .before .before .before .before .before .first-byte .ensures) ∙ c .before .before .before .before .before .before .before .before .if1 .left) (c .before .before .before .before .before .if3 .left) (sym (c .before .before .before .before .read-num2 .ensures) ∙ c .before .before .n2 .given .1))
+    ∙ sym (paths.integer-plus _ _
+    (sym (c .before .before .before .before .before .before .before .before .before .first-byte .ensures)
+    ∙ c .before .before .before .before .before .before .before .before .if1 .left) (c .before .before .before .before .before .if3 .left)
+    (sym (c .before .before .before .before .read-num2 .ensures) ∙ c .before .before .n2 .given .1))
 
 pub integer-at-spec : {M : Type 1} → statement M
 integer-at-spec =

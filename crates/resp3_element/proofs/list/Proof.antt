@@ -22,13 +22,19 @@ enum-told : tie.Need-enum-told
 enum-told c = search needs
 
 returns-2 : tie.Need-returns-2
-returns-2 c = sym (paths.list-is _ _ _ (sym (c .before .before .before .before .first-byte .ensures) ∙ c .before .before .before .if1 .left) (sym (c .before .before .length-at .ensures) ∙ c .enum-told .given .1))
+returns-2 c =
+    let c₃ = c .before .before .before in
+    sym (paths.list-is _ _ _ (sym (c₃ .before .first-byte .ensures) ∙ c₃ .if1 .left) (sym (c .before .before .length-at .ensures) ∙ c .enum-told .given .1))
 
 stand-requires : tie.Need-stand-requires
 stand-requires c κs = search needs
 
 returns-3 : tie.Need-returns-3
-returns-3 c = ap Of (c .stand .ensures) ∙ sym (paths.list-is _ _ _ (sym (c .before .before .before .before .before .before .first-byte .ensures) ∙ c .before .before .before .before .before .if1 .left) (sym (c .before .before .before .before .length-at .ensures) ∙ c .before .before .n .given .1))
+returns-3 c =
+    let c₄ = c .before .before .before .before in
+    ap Of (c .stand .ensures) ∙ sym
+    (paths.list-is _ _ _ (sym (c₄ .before .before .first-byte .ensures) ∙ c₄ .before .if1 .left)
+    (sym (c₄ .length-at .ensures) ∙ c .before .before .n .given .1))
 
 pub list-spec : {M : Type 1} → statement M
 list-spec =

@@ -23,19 +23,27 @@ enum-told : tie.Need-enum-told
 enum-told c = search needs
 
 returns-2 : tie.Need-returns-2
-returns-2 c = sym (paths.range-is _ _ (sym (c .before .before .before .before .first-byte .ensures) ∙ c .before .before .before .if1 .left) (sym (c .before .before .length-at .ensures) ∙ c .enum-told .given .1))
+returns-2 c =
+    let c₃ = c .before .before .before in
+    sym (paths.range-is _ _ (sym (c₃ .before .first-byte .ensures) ∙ c₃ .if1 .left) (sym (c .before .before .length-at .ensures) ∙ c .enum-told .given .1))
 
 sub-if2 : tie.Need-sub-if2
 sub-if2 c = let k = length-bounds _ _ _ _ (sym (c .before .before .before .length-at .ensures) ∙ c .before .n .given .1) in omega arith
 
 returns-3 : tie.Need-returns-3
-returns-3 c = sym (paths.range-is _ _ (sym (c .before .before .before .before .before .before .first-byte .ensures) ∙ c .before .before .before .before .before .if1 .left) (sym (c .before .before .before .before .length-at .ensures) ∙ c .before .before .n .given .1) ∙ paths.range-past _ _ _ (c .if2 .taken))
+returns-3 c =
+    let c₄ = c .before .before .before .before in
+    sym (paths.range-is _ _ (sym (c₄ .before .before .first-byte .ensures) ∙ c₄ .before .if1 .left)
+    (sym (c₄ .length-at .ensures) ∙ c .before .before .n .given .1) ∙ paths.range-past _ _ _ (c .if2 .taken))
 
 add-t9 : tie.Need-add-t9
 add-t9 c = search needs
 
 returns-4 : tie.Need-returns-4
-returns-4 c = sym (paths.range-is _ _ (sym (c .before .before .before .before .before .before .first-byte .ensures) ∙ c .before .before .before .before .before .if1 .left) (sym (c .before .before .before .before .length-at .ensures) ∙ c .before .before .n .given .1) ∙ paths.range-in _ _ _ (c .if2 .left))
+returns-4 c =
+    let c₄ = c .before .before .before .before in
+    sym (paths.range-is _ _ (sym (c₄ .before .before .first-byte .ensures) ∙ c₄ .before .if1 .left)
+    (sym (c₄ .length-at .ensures) ∙ c .before .before .n .given .1) ∙ paths.range-in _ _ _ (c .if2 .left))
 
 pub range-at-spec : {M : Type 1} → statement M
 range-at-spec =

@@ -40,10 +40,12 @@ value-begun-μ-loop s at depth n e q₀ left₀ q left = left
 value-begun-returns : (t : ℕ) → value-begun-lts.Need-returns (claims t) (value-begun-at t) value-begun.Post value-begun-Inv-loop value-begun-μ-loop
 value-begun-returns t c = sym (paths.value-zero _ _ _ (c .if1 .taken))
 
-value-begun-sub-head-begun : (t : ℕ) → value-begun-lts.Need-sub-head-begun (claims t) (value-begun-at t) value-begun.Post value-begun-Inv-loop value-begun-μ-loop
+value-begun-sub-head-begun : (t : ℕ) → value-begun-lts.Need-sub-head-begun (claims t)
+    (value-begun-at t) value-begun.Post value-begun-Inv-loop value-begun-μ-loop
 value-begun-sub-head-begun t c = omega arith
 
-value-begun-head-begun-requires : (t : ℕ) → value-begun-lts.Need-head-begun-requires (claims t) (value-begun-at t) value-begun.Post value-begun-Inv-loop value-begun-μ-loop
+value-begun-head-begun-requires : (t : ℕ) → value-begun-lts.Need-head-begun-requires (claims t)
+    (value-begun-at t) value-begun.Post value-begun-Inv-loop value-begun-μ-loop
 value-begun-head-begun-requires t c κs = c .before .before .pre .1
 
 value-begun-enum-known-k : (t : ℕ) → value-begun-lts.Need-enum-known-k (claims t) (value-begun-at t) value-begun.Post value-begun-Inv-loop value-begun-μ-loop
@@ -56,15 +58,19 @@ value-begun-enum-known-n : (t : ℕ) → value-begun-lts.Need-enum-known-n (clai
 value-begun-enum-known-n t c = search needs
 
 value-begun-loop-holds : (t : ℕ) → value-begun-lts.Need-loop-holds (claims t) (value-begun-at t) value-begun.Post value-begun-Inv-loop value-begun-μ-loop
-value-begun-loop-holds t c = paths.value-head _ _ _ _ (c .before .before .before .before .if1 .left) (sym (c .before .before .before .head-begun .ensures) ∙ c .before .n .given .1)
+value-begun-loop-holds t c =
+    let c₃ = c .before .before .before in
+    paths.value-head _ _ _ _ (c₃ .before .if1 .left) (sym (c₃ .head-begun .ensures) ∙ c .before .n .given .1)
 
 value-begun-sub-left : (t : ℕ) → value-begun-lts.Need-sub-left (claims t) (value-begun-at t) value-begun.Post value-begun-Inv-loop value-begun-μ-loop
 value-begun-sub-left t c = omega arith
 
-value-begun-sub-value-begun : (t : ℕ) → value-begun-lts.Need-sub-value-begun (claims t) (value-begun-at t) value-begun.Post value-begun-Inv-loop value-begun-μ-loop
+value-begun-sub-value-begun : (t : ℕ) → value-begun-lts.Need-sub-value-begun (claims t)
+    (value-begun-at t) value-begun.Post value-begun-Inv-loop value-begun-μ-loop
 value-begun-sub-value-begun t c = omega arith
 
-value-begun-value-begun-requires : (t : ℕ) → value-begun-lts.Need-value-begun-requires (claims t) (value-begun-at t) value-begun.Post value-begun-Inv-loop value-begun-μ-loop
+value-begun-value-begun-requires : (t : ℕ) → value-begun-lts.Need-value-begun-requires (claims t)
+    (value-begun-at t) value-begun.Post value-begun-Inv-loop value-begun-μ-loop
 value-begun-value-begun-requires t c κs = (omega arith, c .before .before .before .before .before .before .before .before .pre .1)
 
 value-begun-enum-known-x : (t : ℕ) → value-begun-lts.Need-enum-known-x (claims t) (value-begun-at t) value-begun.Post value-begun-Inv-loop value-begun-μ-loop
@@ -74,28 +80,42 @@ value-begun-loop-less : (t : ℕ) → value-begun-lts.Need-loop-less (claims t) 
 value-begun-loop-less t c = omega arith
 
 value-begun-loop-again : (t : ℕ) → value-begun-lts.Need-loop-again (claims t) (value-begun-at t) value-begun.Post value-begun-Inv-loop value-begun-μ-loop
-value-begun-loop-again t c = c .before .before .before .before .before .loop .inv ∙ paths.row-one _ _ _ _ _ (c .before .before .before .before .loop-test .taken) (sym (c .before .before .before .value-begun .ensures) ∙ c .before .x .given .1)
+value-begun-loop-again t c =
+    let c₃ = c .before .before .before in
+    c₃ .before .before .loop .inv ∙ paths.row-one _ _ _ _ _ (c₃ .before .loop-test .taken) (sym (c₃ .value-begun .ensures) ∙ c .before .x .given .1)
 
-value-begun-enum-known-k-2 : (t : ℕ) → value-begun-lts.Need-enum-known-k-2 (claims t) (value-begun-at t) value-begun.Post value-begun-Inv-loop value-begun-μ-loop
+value-begun-enum-known-k-2 : (t : ℕ) → value-begun-lts.Need-enum-known-k-2 (claims t)
+    (value-begun-at t) value-begun.Post value-begun-Inv-loop value-begun-μ-loop
 value-begun-enum-known-k-2 t c = search needs
 
-value-begun-lacking-row-requires : (t : ℕ) → value-begun-lts.Need-lacking-row-requires (claims t) (value-begun-at t) value-begun.Post value-begun-Inv-loop value-begun-μ-loop
+value-begun-lacking-row-requires : (t : ℕ) → value-begun-lts.Need-lacking-row-requires (claims t)
+    (value-begun-at t) value-begun.Post value-begun-Inv-loop value-begun-μ-loop
 value-begun-lacking-row-requires t c κs = search needs
 
 value-begun-returns-2 : (t : ℕ) → value-begun-lts.Need-returns-2 (claims t) (value-begun-at t) value-begun.Post value-begun-Inv-loop value-begun-μ-loop
-value-begun-returns-2 t c = c .lacking-row .ensures ∙ sym (c .before .before .before .before .before .before .loop .inv ∙ paths.row-one _ _ _ _ _ (c .before .before .before .before .before .loop-test .taken) (sym (c .before .before .before .before .value-begun .ensures) ∙ c .before .before .k2 .given .1))
+value-begun-returns-2 t c =
+    let c₄ = c .before .before .before .before in
+    c .lacking-row .ensures ∙ sym
+    (c₄ .before .before .loop .inv ∙ paths.row-one _ _ _ _ _ (c₄ .before .loop-test .taken)
+    (sym (c₄ .value-begun .ensures) ∙ c .before .before .k2 .given .1))
 
 value-begun-enum-told-2 : (t : ℕ) → value-begun-lts.Need-enum-told-2 (claims t) (value-begun-at t) value-begun.Post value-begun-Inv-loop value-begun-μ-loop
 value-begun-enum-told-2 t c = search needs
 
 value-begun-returns-3 : (t : ℕ) → value-begun-lts.Need-returns-3 (claims t) (value-begun-at t) value-begun.Post value-begun-Inv-loop value-begun-μ-loop
-value-begun-returns-3 t c = sym (c .before .before .before .before .loop .inv ∙ paths.row-one _ _ _ _ _ (c .before .before .before .loop-test .taken) (sym (c .before .before .value-begun .ensures) ∙ c .enum-told2 .given .1))
+value-begun-returns-3 t c =
+    let c₃ = c .before .before .before in
+    sym (c₃ .before .loop .inv ∙ paths.row-one _ _ _ _ _ (c₃ .loop-test .taken) (sym (c .before .before .value-begun .ensures) ∙ c .enum-told2 .given .1))
 
 value-begun-returns-4 : (t : ℕ) → value-begun-lts.Need-returns-4 (claims t) (value-begun-at t) value-begun.Post value-begun-Inv-loop value-begun-μ-loop
-value-begun-returns-4 t c = sym (paths.value-head _ _ _ _ (c .before .before .before .before .if1 .left) (sym (c .before .before .before .head-begun .ensures) ∙ c .before .k .given .1))
+value-begun-returns-4 t c =
+    let c₃ = c .before .before .before in
+    sym (paths.value-head _ _ _ _ (c₃ .before .if1 .left) (sym (c₃ .head-begun .ensures) ∙ c .before .k .given .1))
 
 value-begun-returns-5 : (t : ℕ) → value-begun-lts.Need-returns-5 (claims t) (value-begun-at t) value-begun.Post value-begun-Inv-loop value-begun-μ-loop
-value-begun-returns-5 t c = sym (paths.value-head _ _ _ _ (c .before .before .before .if1 .left) (sym (c .before .before .head-begun .ensures) ∙ c .enum-told .given .1))
+value-begun-returns-5 t c =
+    let c₃ = c .before .before .before in
+    sym (paths.value-head _ _ _ _ (c₃ .if1 .left) (sym (c .before .before .head-begun .ensures) ∙ c .enum-told .given .1))
 
 value-begun-returns-6 : (t : ℕ) → value-begun-lts.Need-returns-6 (claims t) (value-begun-at t) value-begun.Post value-begun-Inv-loop value-begun-μ-loop
 value-begun-returns-6 t c = sym (c .before .loop .inv ∙ paths.row-none _ _ _ _ (omega arith))

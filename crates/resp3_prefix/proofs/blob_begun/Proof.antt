@@ -14,10 +14,14 @@ enum-known-n : tie.Need-enum-known-n
 enum-known-n c = search needs
 
 add-crlf-begun : tie.Need-add-crlf-begun
-add-crlf-begun c = let b = whole-bounds _ _ _ _ _ (sym (c .before .before .before .count-begun .ensures) ∙ c .before .n .given .1) in omega (arith, b .0, b .1, c .before .before .before .before .before .pre)
+add-crlf-begun c =
+    let b = whole-bounds _ _ _ _ _ (sym (c .before .before .before .count-begun .ensures) ∙ c .before .n .given .1) in
+    omega (arith, b .0, b .1, c .before .before .before .before .before .pre)
 
 crlf-begun-requires : tie.Need-crlf-begun-requires
-crlf-begun-requires c κs = let b = whole-bounds _ _ _ _ _ (sym (c .before .before .before .count-begun .ensures) ∙ c .before .n .given .1) in (c .before .before .before .before .before .pre, omega (arith, b .0, b .1, c .before .before .before .before .before .pre))
+crlf-begun-requires c κs =
+    let b = whole-bounds _ _ _ _ _ (sym (c .before .before .before .count-begun .ensures) ∙ c .before .n .given .1) in
+    (c .before .before .before .before .before .pre, omega (arith, b .0, b .1, c .before .before .before .before .before .pre))
 
 enum-told : tie.Need-enum-told
 enum-told c = search needs

@@ -12,13 +12,15 @@ use Rattle.resp3_prefix.proofs.count_begun.Statement.{statement}
 use Rattle.resp3_prefix.proofs.count_begun.Tie as tie
 
 abbrev Inv-loop : tie.InvT-loop
-Inv-loop s at lim tenth i₀ v₀ i v = (at ≤ i) × (i ≤ length s) × (v ≤ lim) × (at + lead (drop at s) ≡ i + lead (drop i s)) × (valAcc 0 (drop at s) ≡ valAcc v (drop i s))
+Inv-loop s at lim tenth i₀ v₀ i v =
+    (at ≤ i) × (i ≤ length s) × (v ≤ lim) × (at + lead (drop at s) ≡ i + lead (drop i s)) × (valAcc 0 (drop at s) ≡ valAcc v (drop i s))
 
 abbrev μ-loop : tie.MeasureT-loop
 μ-loop s at lim tenth i₀ v₀ i v = length s - i
 
 -- a digit stands at i
-at-digit : (c : tie.Then3 Inv-loop μ-loop) → Turn (c .before .before .before .before .before .before .before .args .s .now) (c .before .before .loop .i) (c .before .before .loop .v)
+at-digit : (c : tie.Then3 Inv-loop μ-loop) → Turn (c .before .before .before .before .before .before .before .args .s .now) (c .before .before .loop .i)
+    (c .before .before .loop .v)
 at-digit c = turn _ _ _ (sym (c .before .digit-at .ensures) ∙ c .if3 .taken)
 
 -- no digit stands at i: none begin there, and the value stays
@@ -55,7 +57,9 @@ digit-at-requires : tie.Need-digit-at-requires Inv-loop μ-loop
 digit-at-requires c κs = search needs
 
 returns-3 : tie.Need-returns-3 Inv-loop μ-loop
-returns-3 c = let t = at-digit (c .before) in sym (paths.count-over _ _ _ (c .before .before .before .before .before .before .if1 .left) (c .before .before .before .before .if2 .left) (omega arith))
+returns-3 c =
+    let t = at-digit (c .before) in
+    sym (paths.count-over _ _ _ (c .before .before .before .before .before .before .if1 .left) (c .before .before .before .before .if2 .left) (omega arith))
 
 shared-slice-read-wide : tie.Need-shared-slice-read-wide Inv-loop μ-loop
 shared-slice-read-wide c = at-digit (c .before .before) .within
@@ -73,7 +77,10 @@ sub-if5 : tie.Need-sub-if5 Inv-loop μ-loop
 sub-if5 c = let t = at-digit (c .before .before .before) in omega arith
 
 returns-4 : tie.Need-returns-4 Inv-loop μ-loop
-returns-4 c = let t = at-digit (c .before .before .before .before) in sym (paths.count-over _ _ _ (c .before .before .before .before .before .before .before .before .before .if1 .left) (c .before .before .before .before .before .before .before .if2 .left) (omega arith))
+returns-4 c =
+    let t = at-digit (c .before .before .before .before) in
+    sym (paths.count-over _ _ _ (c .before .before .before .before .before .before .before .before .before .if1 .left)
+    (c .before .before .before .before .before .before .before .if2 .left) (omega arith))
 
 mul-v : tie.Need-mul-v Inv-loop μ-loop
 mul-v c = let t = at-digit (c .before .before .before .before) in omega arith
@@ -88,16 +95,34 @@ loop-less : tie.Need-loop-less Inv-loop μ-loop
 loop-less c = let t = at-digit (c .before .before .before .before) in omega arith
 
 loop-again : tie.Need-loop-again Inv-loop μ-loop
-loop-again c = let t = at-digit (c .before .before .before .before) in (omega arith, omega arith, omega arith, omega arith, c .before .before .before .before .before .before .loop .inv .4 ∙ rw (c .before .wide .ensures) (t .joins))
+loop-again c =
+    let t = at-digit (c .before .before .before .before) in (
+      omega arith,
+      omega arith,
+      omega arith,
+      omega arith,
+      c .before .before .before .before .before .before .loop .inv .4
+          ∙ rw (c .before .wide .ensures) (t .joins),
+    )
 
 returns-5 : tie.Need-returns-5 Inv-loop μ-loop
-returns-5 c = let n = at-stop (c .before) in sym (paths.count-none _ _ _ (c .before .before .before .before .before .before .if1 .left) (c .before .before .before .before .if2 .left) (omega arith))
+returns-5 c =
+    let n = at-stop (c .before) in
+    sym (paths.count-none _ _ _ (c .before .before .before .before .before .before .if1 .left) (c .before .before .before .before .if2 .left) (omega arith))
 
 count-end-requires-2 : tie.Need-count-end-requires-2 Inv-loop μ-loop
-count-end-requires-2 c κs = (c .before .before .before .before .before .before .before .before .pre, omega (arith, c .before .before .before .before .before .before .before .before .pre))
+count-end-requires-2 c κs = (
+  c .before .before .before .before .before .before .before .before .pre,
+  omega
+      (arith, c .before .before .before .before .before .before .before .before .pre),
+)
 
 returns-6 : tie.Need-returns-6 Inv-loop μ-loop
-returns-6 c = let n = at-stop (c .before .before) in c .count-end2 .ensures ∙ sym (paths.count-more _ _ _ _ _ (c .before .before .before .before .before .before .before .if1 .left) (c .before .before .before .before .before .if2 .left) (omega arith) (omega arith) (c .before .before .before .before .loop .inv .4 ∙ n .1) (omega arith))
+returns-6 c =
+    let n = at-stop (c .before .before) in
+    c .count-end2 .ensures ∙ sym
+    (paths.count-more _ _ _ _ _ (c .before .before .before .before .before .before .before .if1 .left) (c .before .before .before .before .before .if2 .left)
+    (omega arith) (omega arith) (c .before .before .before .before .loop .inv .4 ∙ n .1) (omega arith))
 
 pub count-begun-spec : {M : Type 1} → statement M
 count-begun-spec =

@@ -36,10 +36,14 @@ add-t12 : tie.Need-add-t12
 add-t12 c = search needs
 
 returns-4 : tie.Need-returns-4
-returns-4 c = sym (paths.crlf-both _ _ (c .before .before .before .before .before .if1 .left) (c .before .before .before .if2 .left) (c .before .before .if3 .left) (c .if4 .taken))
+returns-4 c =
+    let c₃ = c .before .before .before in
+    sym (paths.crlf-both _ _ (c₃ .before .before .if1 .left) (c₃ .if2 .left) (c .before .before .if3 .left) (c .if4 .taken))
 
 returns-5 : tie.Need-returns-5
-returns-5 c = sym (paths.crlf-odd _ _ (c .before .before .before .before .before .if1 .left) (c .before .before .before .if2 .left) (c .before .before .if3 .left) (c .if4 .left))
+returns-5 c =
+    let c₃ = c .before .before .before in
+    sym (paths.crlf-odd _ _ (c₃ .before .before .if1 .left) (c₃ .if2 .left) (c .before .before .if3 .left) (c .if4 .left))
 
 pub crlf-begun-spec : {M : Type 1} → statement M
 crlf-begun-spec =

@@ -18,7 +18,9 @@ within-requires : tie.Need-within-requires
 within-requires c κs = search needs
 
 returns : tie.Need-returns
-returns c = c .within .ensures ∙ paths.first-is (c .before .before .before .before .before .args .s .now) _ _ (c .before .before .before .at-most .ensures) (c .before .value-begun .ensures)
+returns c =
+    let c₃ = c .before .before .before in
+    c .within .ensures ∙ paths.first-is (c₃ .before .before .args .s .now) _ _ (c₃ .at-most .ensures) (c .before .value-begun .ensures)
 
 pub first-value-spec : {M : Type 1} → statement M
 first-value-spec =

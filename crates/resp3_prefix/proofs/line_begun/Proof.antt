@@ -23,19 +23,33 @@ plain-at-requires : tie.Need-plain-at-requires Inv-loop μ-loop
 plain-at-requires c κs = search needs
 
 add-i : tie.Need-add-i Inv-loop μ-loop
-add-i c = let k = resp3-paths.plain-step (c .before .before .before .before .args .s .now) (c .before .before .loop .i) (sym (c .before .plain-at .ensures) ∙ c .if1 .taken) in omega arith
+add-i c =
+    let k = resp3-paths.plain-step (c .before .before .before .before .args .s .now) (c .before .before .loop .i)
+    (sym (c .before .plain-at .ensures) ∙ c .if1 .taken) in
+    omega arith
 
 loop-less : tie.Need-loop-less Inv-loop μ-loop
-loop-less c = let k = resp3-paths.plain-step (c .before .before .before .before .args .s .now) (c .before .before .loop .i) (sym (c .before .plain-at .ensures) ∙ c .if1 .taken) in omega arith
+loop-less c =
+    let k = resp3-paths.plain-step (c .before .before .before .before .args .s .now) (c .before .before .loop .i)
+    (sym (c .before .plain-at .ensures) ∙ c .if1 .taken) in
+    omega arith
 
 loop-again : tie.Need-loop-again Inv-loop μ-loop
-loop-again c = let k = resp3-paths.plain-step (c .before .before .before .before .args .s .now) (c .before .before .loop .i) (sym (c .before .plain-at .ensures) ∙ c .if1 .taken) in (omega arith, omega arith)
+loop-again c =
+    let k = resp3-paths.plain-step (c .before .before .before .before .args .s .now) (c .before .before .loop .i)
+    (sym (c .before .plain-at .ensures) ∙ c .if1 .taken) in
+    (omega arith, omega arith)
 
 crlf-begun-requires : tie.Need-crlf-begun-requires Inv-loop μ-loop
-crlf-begun-requires c κs = (c .before .before .before .before .pre .0, omega (arith, c .before .before .before .before .pre .0, c .before .before .loop .inv .0))
+crlf-begun-requires c κs =
+    (c .before .before .before .before .pre .0, omega (arith, c .before .before .before .before .pre .0, c .before .before .loop .inv .0))
 
 returns : tie.Need-returns Inv-loop μ-loop
-returns c = c .crlf-begun .ensures ∙ sym (paths.line-is _ _ _ (let k = resp3-paths.plain-stop (c .before .before .before .before .before .args .s .now) (c .before .before .before .loop .i) (sym (c .before .before .plain-at .ensures) ∙ c .before .if1 .left) in omega (arith, c .before .before .before .loop .inv .1)))
+returns c =
+    c .crlf-begun .ensures ∙ sym
+    (paths.line-is _ _ _
+    (let k = resp3-paths.plain-stop (c .before .before .before .before .before .args .s .now) (c .before .before .before .loop .i)
+    (sym (c .before .before .plain-at .ensures) ∙ c .before .if1 .left) in omega (arith, c .before .before .before .loop .inv .1)))
 
 pub line-begun-spec : {M : Type 1} → statement M
 line-begun-spec =

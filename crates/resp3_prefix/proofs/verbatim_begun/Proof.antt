@@ -14,7 +14,9 @@ enum-known-n : tie.Need-enum-known-n
 enum-known-n c = search needs
 
 verbatim-body-requires : tie.Need-verbatim-body-requires
-verbatim-body-requires c κs = let b = whole-bounds _ _ _ _ _ (sym (c .before .before .before .count-begun .ensures) ∙ c .before .n .given .1) in (c .before .before .before .before .before .pre, b .0, b .1)
+verbatim-body-requires c κs =
+    let c₃ = c .before .before .before in
+    let b = whole-bounds _ _ _ _ _ (sym (c₃ .count-begun .ensures) ∙ c .before .n .given .1) in (c₃ .before .before .pre, b .0, b .1)
 
 enum-told : tie.Need-enum-told
 enum-told c = search needs
@@ -35,19 +37,29 @@ enum-told-2 : tie.Need-enum-told-2
 enum-told-2 c = search needs
 
 returns : tie.Need-returns
-returns c = c .verbatim-body .ensures ∙ sym (paths.verbatim-is _ _ _ (sym (c .before .before .before .before .count-begun .ensures) ∙ c .before .before .n .given .1))
+returns c =
+    let c₄ = c .before .before .before .before in
+    c .verbatim-body .ensures ∙ sym (paths.verbatim-is _ _ _ (sym (c₄ .count-begun .ensures) ∙ c .before .before .n .given .1))
 
 returns-2 : tie.Need-returns-2
 returns-2 c = sym (paths.verbatim-is _ _ _ (sym (c .before .before .count-begun .ensures) ∙ c .enum-told .given .1))
 
 returns-3 : tie.Need-returns-3
-returns-3 c = c .verbatim-digits .ensures ∙ sym (paths.verbatim-is _ _ _ (sym (c .before .before .before .before .count-begun .ensures) ∙ c .before .before .m .given .1))
+returns-3 c =
+    let c₄ = c .before .before .before .before in
+    c .verbatim-digits .ensures ∙ sym (paths.verbatim-is _ _ _ (sym (c₄ .count-begun .ensures) ∙ c .before .before .m .given .1))
 
 returns-4 : tie.Need-returns-4
-returns-4 c = sym ((paths.verbatim-is _ _ _ (sym (c .before .before .before .before .count-begun .ensures) ∙ c .before .before .m2 .given .1)) ∙ paths.ended-four (c .before .before .before .before .before .before .args .s .now) _ (c .if1 .taken))
+returns-4 c =
+    let c₄ = c .before .before .before .before in
+    sym ((paths.verbatim-is _ _ _ (sym (c₄ .count-begun .ensures) ∙ c .before .before .m2 .given .1))
+    ∙ paths.ended-four (c₄ .before .before .args .s .now) _ (c .if1 .taken))
 
 returns-5 : tie.Need-returns-5
-returns-5 c = sym ((paths.verbatim-is _ _ _ (sym (c .before .before .before .before .count-begun .ensures) ∙ c .before .before .m2 .given .1)) ∙ paths.ended-few (c .before .before .before .before .before .before .args .s .now) _ (c .if1 .left))
+returns-5 c =
+    let c₄ = c .before .before .before .before in
+    sym ((paths.verbatim-is _ _ _ (sym (c₄ .count-begun .ensures) ∙ c .before .before .m2 .given .1))
+    ∙ paths.ended-few (c₄ .before .before .args .s .now) _ (c .if1 .left))
 
 returns-6 : tie.Need-returns-6
 returns-6 c = sym (paths.verbatim-is _ _ _ (sym (c .before .before .count-begun .ensures) ∙ c .enum-told2 .given .1))

@@ -36,7 +36,9 @@ crlf-begun-requires-2 : tie.Need-crlf-begun-requires-2
 crlf-begun-requires-2 c κs = search needs
 
 returns-4 : tie.Need-returns-4
-returns-4 c = c .crlf-begun2 .ensures ∙ sym (paths.body-colon _ _ _ (c .before .before .before .before .if1 .left) (c .before .before .before .if2 .left) (c .before .if3 .left))
+returns-4 c =
+    let c₃ = c .before .before .before in
+    c .crlf-begun2 .ensures ∙ sym (paths.body-colon _ _ _ (c₃ .before .if1 .left) (c₃ .if2 .left) (c .before .if3 .left))
 
 pub verbatim-body-spec : {M : Type 1} → statement M
 verbatim-body-spec =

@@ -65,7 +65,10 @@ enum-known-c : tie.Need-enum-known-c
 enum-known-c c = search needs
 
 put-list-requires : tie.Need-put-list-requires
-put-list-requires c κs = standing _ _ _ _ (c .before .c .given .1) (c .before .before .before .array .ensures .0 (c .before .before .before .before .before .before .before .before .before .before .before .before .pre .v) (c .before .before .before .before .before .before .before .before .before .before .before .before .pre .means))
+put-list-requires c κs =
+    let c₃ = c .before .before .before in
+    let c₁₂ = c₃ .before .before .before .before .before .before .before .before .before in
+    standing _ _ _ _ (c .before .c .given .1) (c₃ .array .ensures .0 (c₁₂ .pre .v) (c₁₂ .pre .means))
 
 enum-told-3 : tie.Need-enum-told-3
 enum-told-3 c = search needs
@@ -77,7 +80,10 @@ enum-known-c-2 : tie.Need-enum-known-c-2
 enum-known-c-2 c = search needs
 
 put-list-requires-2 : tie.Need-put-list-requires-2
-put-list-requires-2 c κs = standing _ _ _ _ (c .before .c2 .given .1) (c .before .before .before .push .ensures .0 (c .before .before .before .before .before .before .before .before .before .before .before .before .before .before .pre .v) (c .before .before .before .before .before .before .before .before .before .before .before .before .before .before .pre .means))
+put-list-requires-2 c κs =
+    let c₃ = c .before .before .before in
+    let c₁₄ = c₃ .before .before .before .before .before .before .before .before .before .before .before in
+    standing _ _ _ _ (c .before .c2 .given .1) (c₃ .push .ensures .0 (c₁₄ .pre .v) (c₁₄ .pre .means))
 
 enum-told-4 : tie.Need-enum-told-4
 enum-told-4 c = search needs

@@ -16,7 +16,7 @@ use prog.Wp.{Heap, Env, Calls, Loops, WpFn, Tables}
 use ghost.Atoms.{Atoms, sem}
 use contract.Monad.{Fun, fact, fact-use}
 use contract.Running.{givenOf, tables, tablesOf}
-use types.Kit.{Given, Go, Item, Post as After, Seq, runs, lands, ‵, raw, _⊛_, some, later, _$_, _∵_, !, qed, by, move, keep, drop, use1, use2, use3, split}
+use types.Kit.{Given, Go, Item, Post as After, Seq, runs, lands, ‵, raw, _⊛_, some, later, _$_, _∵_, !, qed, by, move, keep, use1, use2, use3, split}
 use types.Kit.{given, join, pick, fsplit, fjoin, feqL, feqI, check, learn, suffices, frame, await, updating, now as at-once, done}
 use types.Tokens.{lft-new, lft-end}
 use types.Run.{Opds, look, init, store, forget, stop, hop, fld, from, load, addr, unit-lit, and-then, no-more, of-opd, assigns, land, returns, enter}
