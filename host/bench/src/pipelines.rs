@@ -24,13 +24,16 @@ pub fn planning(table: &mut Table) {
             .collect();
         for count in COMMANDS {
             let keys = count.min(1023);
-            for (words, call) in [
+            let mut calls = vec![
                 (gets(count, "served"), Call::gets(&there, count)),
                 (gets(count, "missing"), Call::gets(&new, count)),
                 (mget(keys, "served"), Call::mget(&there, keys)),
                 (mget(keys, "missing"), Call::mget(&new, keys)),
-                (mget(keys, "half missing"), Call::mget(&both, keys)),
-            ] {
+            ];
+            if keys > 1 {
+                calls.push((mget(keys, "half missing"), Call::mget(&both, keys)));
+            }
+            for (words, call) in calls {
                 plan(table, &filled, format!("{}: {words}", bytes(arena)), &call);
             }
         }
