@@ -14,7 +14,11 @@ pub fn planning(table: &mut Table) {
     if !table.wants("planning") {
         return;
     }
-    for arena in ARENAS {
+    for arena in ARENAS
+        .into_iter()
+        .filter(|&arena| table.wants_on("planning", arena))
+        .collect::<Vec<_>>()
+    {
         let filled = Filled::with(arena, 100, VALUE);
         let (there, new) = (filled.keys(), filled.new_keys());
         let both: Vec<Vec<u8>> = there
@@ -71,7 +75,11 @@ pub fn resolving(table: &mut Table) {
     if !table.wants("resolving") {
         return;
     }
-    for arena in ARENAS {
+    for arena in ARENAS
+        .into_iter()
+        .filter(|&arena| table.wants_on("resolving", arena))
+        .collect::<Vec<_>>()
+    {
         let filled = Filled::with(arena, 50, VALUE);
         let (there, new) = (filled.keys(), filled.new_keys());
         for count in COMMANDS {
