@@ -148,6 +148,19 @@ impl Filled {
         way(move || used(all_bits(black_box(&pass))))
     }
 
+    /// What any check of the items comes down to, without proof: each item's head read, its key hashed and its value's ends looked at.
+    pub fn walk(&self) -> Way<'_> {
+        way(|| {
+            let arena = self.arena.borrow();
+            let shards = self.rows.len();
+            let found = arena.chunks_exact(arena.len() / shards).enumerate();
+            let items: usize = found
+                .map(|(shard, bytes)| walked(black_box(bytes), shard, shards))
+                .sum();
+            assert_eq!(items, self.items());
+        })
+    }
+
     /// Planning of these commands.
     pub fn plannings<'a>(&'a self, call: &'a Call) -> Way<'a> {
         let mut buffers = call.buffers();
@@ -248,6 +261,22 @@ const NOW: Now = Now {
     clock: CLOCK,
     epoch: 0,
 };
+
+/// The items of a shard, all of one entry and with a blob as its value.
+fn walked(shard: &[u8], number: usize, shards: usize) -> usize {
+    let u32_at =
+        |at: usize| u32::from_le_bytes(shard[at..at + 4].try_into().expect("4 bytes")) as usize;
+    let (count, mut at) = (u32_at(0), 16);
+    for _ in 0..count {
+        let (key, used) = (u32_at(at), u32_at(at + 24));
+        let home = siphash::hash(&shard[at + 32..at + 32 + key]) % shards as u64;
+        let entry = at + 32 + key;
+        let value = &shard[entry + 16 + u32_at(entry)..entry + used];
+        assert!(home == number as u64 && value[0] == b'$' && value.ends_with(b"\r\n"));
+        at = entry + used;
+    }
+    count
+}
 
 /// The bits that any byte has: one pass over all, which the compiler turns into wide steps.
 pub fn all_bits(bytes: &[u8]) -> u8 {

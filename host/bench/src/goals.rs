@@ -96,7 +96,10 @@ fn lookups(table: &mut Table, goals: &mut Vec<Goal>) {
     ] {
         let filled = Filled::with(arena, percent, VALUE);
         let items = filled.items();
-        let mut others = vec![("floor an item", exactly(ns), words, 2.5)];
+        let mut others = vec![
+            ("floor an item", exactly(ns), words, 2.5),
+            ("plain walk", filled.walk().one_of(items), "", 0.0),
+        ];
         if (arena, percent) == (16 << 20, 100) {
             let one = small.lookups().one_of(small_items);
             let words = "an item of a full 16 MiB arena over one of a full 1 MiB arena";

@@ -30,6 +30,9 @@ pub fn growth(table: &mut Table) {
 }
 
 fn hit(table: &mut Table, group: &'static str, arena: usize, percent: usize, value: usize) {
+    if !table.wants_on(group, arena) {
+        return;
+    }
     let filled = Filled::with(arena, percent, value);
     let items = filled.items();
     let words = format!(

@@ -146,6 +146,16 @@ impl Table {
         self.wanted.is_empty() || self.wanted.iter().any(|(wanted, _)| wanted == group)
     }
 
+    /// Whether cases of this group on an arena of this length may be asked for: its length stands first in their words.
+    pub fn wants_on(&self, group: &str, arena: usize) -> bool {
+        let on = |words: &str| !words.contains("iB") || words.starts_with(&bytes(arena));
+        self.wanted.is_empty()
+            || self
+                .wanted
+                .iter()
+                .any(|(wanted, words)| wanted == group && on(words))
+    }
+
     fn wants_case(&self, case: &Case) -> bool {
         let asked =
             |(group, words): &(String, String)| group == case.group && case.words.contains(words);

@@ -14,7 +14,11 @@ pub fn planning(table: &mut Table) {
     if !table.wants("planning") {
         return;
     }
-    for arena in ARENAS {
+    for arena in ARENAS
+        .into_iter()
+        .filter(|&arena| table.wants_on("planning", arena))
+        .collect::<Vec<_>>()
+    {
         let filled = Filled::with(arena, 100, VALUE);
         let (there, new) = (filled.keys(), filled.new_keys());
         let both: Vec<Vec<u8>> = there
@@ -24,13 +28,16 @@ pub fn planning(table: &mut Table) {
             .collect();
         for count in COMMANDS {
             let keys = count.min(1023);
-            for (words, call) in [
+            let mut calls = vec![
                 (gets(count, "served"), Call::gets(&there, count)),
                 (gets(count, "missing"), Call::gets(&new, count)),
                 (mget(keys, "served"), Call::mget(&there, keys)),
                 (mget(keys, "missing"), Call::mget(&new, keys)),
-                (mget(keys, "half missing"), Call::mget(&both, keys)),
-            ] {
+            ];
+            if keys > 1 {
+                calls.push((mget(keys, "half missing"), Call::mget(&both, keys)));
+            }
+            for (words, call) in calls {
                 plan(table, &filled, format!("{}: {words}", bytes(arena)), &call);
             }
         }
@@ -68,7 +75,11 @@ pub fn resolving(table: &mut Table) {
     if !table.wants("resolving") {
         return;
     }
-    for arena in ARENAS {
+    for arena in ARENAS
+        .into_iter()
+        .filter(|&arena| table.wants_on("resolving", arena))
+        .collect::<Vec<_>>()
+    {
         let filled = Filled::with(arena, 50, VALUE);
         let (there, new) = (filled.keys(), filled.new_keys());
         for count in COMMANDS {

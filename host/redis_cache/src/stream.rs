@@ -86,6 +86,44 @@ impl fmt::Display for Lost {
 
 impl std::error::Error for Lost {}
 
+/// Why the next call in turn has no answer.
+///
+/// ```
+/// use redis_cache::{Cache, CacheConfig, NoAnswer, Stream, cmd};
+///
+/// let mut stream = Stream::new(Cache::new(CacheConfig::new())?);
+/// stream.send(0, &cmd("PING"))?;
+/// stream.disconnected();
+/// let Some(Err(none)) = stream.next_answer() else { panic!("no answer") };
+/// assert_eq!(none, NoAnswer::Dropped);
+/// assert!(none.to_string().ends_with("Ask again on a new connection."));
+/// # Ok::<(), redis_cache::Error>(())
+/// ```
+#[derive(Clone, Debug, PartialEq, Eq)]
+pub enum NoAnswer {
+    /// Its replies were refused.
+    Refused(Error),
+    /// It was open when the connection was lost, or was made before the next one.
+    Dropped,
+    /// The connection is to be taken as lost.
+    Lost(Lost),
+}
+
+impl fmt::Display for NoAnswer {
+    fn fmt(&self, f: &mut fmt::Formatter<'_>) -> fmt::Result {
+        match self {
+            NoAnswer::Refused(error) => error.fmt(f),
+            NoAnswer::Dropped => write!(
+                f,
+                "the connection was lost before the call was answered. Ask again on a new connection."
+            ),
+            NoAnswer::Lost(lost) => lost.fmt(f),
+        }
+    }
+}
+
+impl std::error::Error for NoAnswer {}
+
 /// A cache on one connection after another. The host has the socket: it hands in the bytes that arrived, in their order, sends
 /// the bytes that are to be sent, and takes the events. Framing, the order of replies and pushes, and the collecting of replies
 /// are seen to here:
@@ -345,6 +383,32 @@ impl Stream {
     /// ```
     pub fn next_event(&mut self) -> Option<Event> {
         self.events.pop_front()
+    }
+
+    /// The next answer, for a host that makes one call after the other: pushes are passed over, and what else happens to a call is an error. `None` where
+    /// more bytes have to arrive first.
+    ///
+    /// ```
+    /// use redis_cache::{Cache, CacheConfig, Stream, cmd};
+    ///
+    /// let mut stream = Stream::new(Cache::new(CacheConfig::new())?);
+    /// stream.send(0, &cmd("PING"))?;
+    /// assert!(stream.next_answer().is_none());
+    /// stream.received(0, b"%0\r\n+OK\r\n+PONG\r\n");
+    /// let answer = stream.next_answer().expect("it is there")?;
+    /// assert_eq!(answer.query::<String>()?, "PONG");
+    /// # Ok::<(), Box<dyn std::error::Error>>(())
+    /// ```
+    pub fn next_answer(&mut self) -> Option<Result<OwnedAnswer, NoAnswer>> {
+        loop {
+            return Some(match self.next_event()? {
+                Event::Push(_) => continue,
+                Event::Answer(_, answer) => Ok(answer),
+                Event::Refused(_, error) => Err(NoAnswer::Refused(error)),
+                Event::Dropped(_) => Err(NoAnswer::Dropped),
+                Event::Lost(lost) => Err(NoAnswer::Lost(lost)),
+            });
+        }
     }
 
     /// The connection is gone. Open calls are dropped, and until [`Stream::reconnected`] so is every call: what is kept may have
