@@ -2,6 +2,7 @@
 // and keys once more where several stand in a row; of many keys only those are compared that share a mark.
 ghost use mathlib.Core.Path.{_≡_};
 ghost use Prim.Native.Nat.{ℕ, _+_, _*_, _-_, _%_, _^_, _≤_, _<_};
+ghost use mathlib.Core.Bool.{true, false};
 ghost use lib.ListN.{length};
 ghost use Rattle.buffer.specs.Field.{read32};
 ghost use Rattle.buffer.specs.Part.{part};
@@ -15,11 +16,28 @@ ghost use Rattle.arena_check.specs.Home.{homeIn, mixed, markedBy, markOf
 ghost use Rattle.arena_check.specs.Chain.{Stand, keysFrom, Among, Answers, Latest, Chains, Linked, Tables, Chained};
 ghost use Rattle.arena_check.specs.Check.{keyIn, nextIn, keyAt, itemNext, itemWithin, entryOk, entriesEnd, itemOk, itemsEnd, shardOk};
 
+// Whether two ranges of n bytes differ in their last eight: few keys that share a mark are then compared in full. False where they have no eight bytes.
+fn other_tails(s: &[u8], a: usize, b: usize, n: usize) -> bool
+    requires { ⌜ (a + n ≤ length (now s)) × (b + n ≤ length (now s)) ⌝ }
+    ensures { λ r. ⌜ (r ≡ true → same (part (now (s .entry)) a n) (part (now (s .entry)) b n) ≡ false) ⌝ }
+{
+    if n < 8 {
+        return false;
+    }
+    buffer::read_u64(s, a + (n - 8)) != buffer::read_u64(s, b + (n - 8))
+}
+
 // Whether two ranges of s have the same bytes.
 fn same_part(s: &[u8], a: usize, n: usize, b: usize, m: usize) -> bool
     requires { ⌜ (a + n ≤ length (now s)) × (b + m ≤ length (now s)) ⌝ }
     ensures { λ r. ⌜ r ≡ same (part (now (s .entry)) a n) (part (now (s .entry)) b m) ⌝ }
 {
+    if n != m {
+        return false;
+    }
+    if other_tails(s, a, b, n) {
+        return false;
+    }
     let e = a + n;
     let d = b + m;
     buffer::same(&s[a..e], &s[b..d])
