@@ -103,7 +103,7 @@ fn lookups(table: &mut Table, goals: &mut Vec<Goal>) {
         if (arena, percent) == (16 << 20, 100) {
             let one = small.lookups().one_of(small_items);
             let words = "an item of a full 16 MiB arena over one of a full 1 MiB arena";
-            others.push(("1 MiB, an item", one, words, 2.0));
+            others.push(("item at 1 MiB", one, words, 2.0));
         }
         let case = Case::new(
             "goals",

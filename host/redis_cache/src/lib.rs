@@ -8,7 +8,7 @@
 //! |---|---|
 //! | a cached connection over a socket of the host's | [`Stream`] |
 //! | a cache without a connection | [`Cache`] |
-//! | commands and pipelines | [`cmd`], [`pipe`] |
+//! | commands and pipelines | [`cmd()`], [`pipe`] |
 //! | answers | [`Answer::query`], [`Value`] |
 //! | the library's calls on lent memory | [`lent`] |
 //!

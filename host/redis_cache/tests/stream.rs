@@ -59,6 +59,30 @@ fn after(bytes: &str, kept: bool) {
     }
 }
 
+/// Bytes that come one by one, or in small pieces, of a list that is long: what is complete is told at its last byte and not later.
+#[test]
+fn bytes_in_pieces() {
+    let elements: String = (0..2000)
+        .map(|n| format!("${}\r\n{n}\r\n", n.to_string().len()))
+        .collect();
+    let bytes = format!("{GREETED}:-1\r\n*2000\r\n{elements}");
+    for size in [1, 2, 7, 64, 4096] {
+        let mut stream = stream();
+        stream
+            .send(0, cmd("LRANGE").arg(&["trap7", "0", "-1"]))
+            .expect("a call");
+        let pieces: Vec<&[u8]> = bytes.as_bytes().chunks(size).collect();
+        for (n, piece) in pieces.iter().enumerate() {
+            assert_eq!(stream.next_event(), None, "{size}, {n}");
+            stream.received(0, piece);
+        }
+        let Some(Event::Answer(_, answer)) = stream.next_event() else {
+            panic!("an answer, {size}")
+        };
+        assert_eq!(answer.query(), Ok((0..2000).collect::<Vec<u32>>()));
+    }
+}
+
 #[test]
 fn what_is_fetched_is_served() {
     after(":-1\r\n$2\r\n12\r\n", true);

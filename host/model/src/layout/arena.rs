@@ -1,8 +1,10 @@
 //! The arena: for each shard its row of items, newest first, packed, and then zeros.
 //!
-//!     shard:  count of items u32 | bytes used after this header u32 | 8 zero bytes | items, newest first | zeros to the end
-//!     item:   key length u32 | count of entries u32 | epoch u64 | expiry u64 | bytes of its entries u32 | 4 zero bytes | key | entries
-//!     entry:  command key length u32 | value length u32 | 8 zero bytes | command key | value
+//! ```text
+//! shard:  count of items u32 | bytes used after this header u32 | 8 zero bytes | items, newest first | zeros to the end
+//! item:   key length u32 | count of entries u32 | epoch u64 | expiry u64 | bytes of its entries u32 | 4 zero bytes | key | entries
+//! entry:  command key length u32 | value length u32 | 8 zero bytes | command key | value
+//! ```
 
 use super::{Reader, field};
 use crate::{config, siphash};

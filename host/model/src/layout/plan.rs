@@ -1,7 +1,9 @@
 //! The plan: a flat row of nodes.
 //!
-//!     plan:  flags u8 (bit 0 transaction) | `_` CR LF | count of commands u32 | nodes to the end
-//!     node:  kind u32 | a u32 | b u32 | number u64 | a bytes | b bytes
+//! ```text
+//! plan:  flags u8 (bit 0 transaction) | `_` CR LF | count of commands u32 | nodes to the end
+//! node:  kind u32 | a u32 | b u32 | number u64 | a bytes | b bytes
+//! ```
 //!
 //! | kind | means | a bytes | b bytes | number |
 //! |---|---|---|---|---|
