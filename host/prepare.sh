@@ -1,4 +1,4 @@
-# What host/test and ./bench both need; sourced by them, in host/. It brings Debian's packages, cargo, the crate's own sources and
+# What host/test, ./bench and ./desk need; sourced by them, in host/. It brings Debian's packages, cargo, the crate's own sources and
 # the static libraries of the proved crates. A part that cannot go on ends in `stop`, which the sourcing script defines.
 
 # packages NAME..: installed where this may be done, named otherwise.
@@ -18,14 +18,20 @@ packages() {
     rm -f "$log"
 }
 
-# cargo_over_debian: finds cargo, and writes target/debian.toml, by which it takes crates from Debian's packages alone.
-cargo_over_debian() {
-    local manifest
+# find_cargo: puts cargo on the PATH, and lets both workspaces build into target/, unless CARGO_TARGET_DIR names another folder.
+find_cargo() {
     # Rust's installer puts cargo below the home folder, which is not on every PATH.
     HOME=${HOME:-$(getent passwd "$(id -u)" | cut -d: -f6)}
     export HOME
     command -v cargo >/dev/null 2>&1 || export PATH="${CARGO_HOME:-$HOME/.cargo}/bin:$PATH"
     command -v cargo >/dev/null 2>&1 || stop "cargo is missing: install Rust"
+    export CARGO_TARGET_DIR=${CARGO_TARGET_DIR:-$PWD/target}
+}
+
+# cargo_over_debian: finds cargo, and writes target/debian.toml, by which it takes crates from Debian's packages alone.
+cargo_over_debian() {
+    local manifest
+    find_cargo
     # The folder in which the packages put their crates, as the package manager tells it.
     manifest=$(dpkg -L librust-lru-dev | grep -E '/lru-[^/]*/Cargo\.toml$' | head -n 1)
     [ -n "$manifest" ] || stop "librust-lru-dev holds no crate"

@@ -1,9 +1,11 @@
-//! Links what is measured: the leaves, and Debian's hiredis.
+//! Links what is measured beside the cache: the leaves, and Debian's hiredis.
 
 #[path = "../staticlib.rs"]
 mod staticlib;
 
 fn main() {
-    staticlib::link("bench_exports");
-    println!("cargo::rustc-link-lib=hiredis");
+    if std::env::var_os("CARGO_FEATURE_LEAVES").is_some() {
+        staticlib::link("bench_exports");
+        println!("cargo::rustc-link-lib=hiredis");
+    }
 }

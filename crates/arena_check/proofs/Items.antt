@@ -1,6 +1,6 @@
 -- One pure law for each path of the code that checks an item. Assumes nothing.
 use mathlib.Core.Path.{_≡_, refl, sym, _∙_}
-use Prim.Native.Nat.{ℕ, _+_, _-_, _≤_, _<_}
+use Prim.Native.Nat.{ℕ, _+_, _-_, _%_, _≤_, _<_}
 use native.Mathlib.Omega.{arith}
 use mathlib.Core.Bool.{Bool, true, false, cond}
 use lib.ListN.{take, drop}
@@ -16,6 +16,7 @@ use Rattle.resp3.specs.Ends.{isValue}
 use Rattle.siphash.specs.Sip.{sipHash13}
 use Rattle.arena.specs.Decode.{every}
 use Rattle.arena.specs.Tests.{every-yes}
+use Rattle.arena_check.specs.Home.{homeIn}
 use Rattle.arena_check.specs.Check.{keyIn, keyAt, entriesAt, itemNext, itemWithin, entriesEnd, itemOk}
 
 -- a test alone
@@ -41,6 +42,11 @@ module _ (s : Bytes) (end at : ℕ) where
 pub hash-read : (s : Bytes) (h at k r : ℕ) → k ≡ read32 s at → r ≡ sipHash13 (take (at + h + k - (at + h)) (drop (at + h) s)) → r ≡ sipHash13 (keyIn h s at)
 unfolding part
 hash-read s h at k r a e = let n : at + h + k - (at + h) ≡ k = omega arith in rw (n, a) at e
+
+-- the test of its shard, by the hash and the number that were worked out
+pub home-read : (shards shard hash home : ℕ) (k : Bytes) (b : Bool) → hash ≡ sipHash13 k → home ≡ hash % shards → eqb home shard ≡ b
+    → eqb (homeIn shards k) shard ≡ b
+home-read shards shard hash home k b h e t = rw (← h, ← e) t
 
 -- the test of its entries' end, by what was read
 pub ends-read : (s : Bytes) (at k n next r : ℕ) → k ≡ read32 s at → n ≡ read32 s (at + 4) → next ≡ itemNext s at

@@ -82,8 +82,7 @@ zero-read w s at r h e = zero-field w s at h ∙ ap (λ (i : ℕ). eqb i 0) (sym
 
 -- its value, by the lengths that were read
 pub value-read : (s : Bytes) (at c v : ℕ) (r : Bool) → c ≡ read32 s at → v ≡ read32 s (at + 4)
-    → r ≡ isValue (take (at + 16 + c + v - (at + 16 + c)) (drop (at + 16 + c) s)) → r ≡ isValue (valueAt s at)
-unfolding part
+    → r ≡ isValue (part s (at + 16 + c) (at + 16 + c + v - (at + 16 + c))) → r ≡ isValue (valueAt s at)
 value-read s at c v r a b e = let n : at + 16 + c + v - (at + 16 + c) ≡ v = omega arith in rw (n, a, b) at e
 
 module _ (isValue : Bytes → Bool) (s : Bytes) (end at : ℕ) where

@@ -1,7 +1,7 @@
 // Whether bytes are an image of the arena: the test behind cause 9, of every call that is lent an arena. It goes over each byte once, and over heads
 // and keys once more where several stand in a row; of many keys only those are compared that share a mark.
 ghost use mathlib.Core.Path.{_≡_};
-ghost use Prim.Native.Nat.{ℕ, _+_, _*_, _-_, _^_, _≤_, _<_};
+ghost use Prim.Native.Nat.{ℕ, _+_, _*_, _-_, _%_, _^_, _≤_, _<_};
 ghost use lib.ListN.{length};
 ghost use Rattle.buffer.specs.Field.{read32};
 ghost use Rattle.buffer.specs.Part.{part};
@@ -237,14 +237,11 @@ fn at_most_4096(n: usize) -> usize
     4096
 }
 
-// Whether no two of the n things from `first` on have the same key.
-fn distinct(s: &[u8], h: usize, f: usize, n: usize, first: usize) -> bool
+// The same for any number of things, in blocks of 4,096.
+fn many_distinct(s: &[u8], h: usize, f: usize, n: usize, first: usize) -> bool
     requires { ⌜ Stand h f (now s) n first ⌝ }
     ensures { λ r. ⌜ Answers (keysFrom h f (now (s .entry)) first) r n n ⌝ }
 {
-    if n <= 1 {
-        return true;
-    }
     if n <= 4 {
         return few_distinct(s, h, f, n, first);
     }
@@ -263,6 +260,17 @@ fn distinct(s: &[u8], h: usize, f: usize, n: usize, first: usize) -> bool
         left -= m;
     }
     true
+}
+
+// Whether no two of the n things from `first` on have the same key. Most items have one entry, and one thing is not walked.
+fn distinct(s: &[u8], h: usize, f: usize, n: usize, first: usize) -> bool
+    requires { ⌜ Stand h f (now s) n first ⌝ }
+    ensures { λ r. ⌜ Answers (keysFrom h f (now (s .entry)) first) r n n ⌝ }
+{
+    if n <= 1 {
+        return true;
+    }
+    many_distinct(s, h, f, n, first)
 }
 
 // Whether an entry stands at `at`, within `end`.
@@ -286,7 +294,7 @@ fn entry_ok(s: &[u8], end: usize, at: usize) -> bool
     if c > config::MAX_BYTES {
         return false;
     }
-    resp3::is_value(&s[from..next])
+    resp3::value_in(s, from, next)
 }
 
 // Where n entries end that stand from `first` on, within `end`; 0 where they do not, or a command key is there twice.
@@ -322,6 +330,17 @@ fn item_within(s: &[u8], end: usize, at: usize) -> bool
     at + 32 + k + e <= end
 }
 
+// The number of the shard of a key with that hash. There are mostly 32 shards, and then no division is needed.
+fn home_of(hash: u64, shards: usize) -> usize
+    requires { ⌜ 0 < shards ⌝ }
+    ensures { λ r. ⌜ r ≡ hash % shards ⌝ }
+{
+    if shards == 32 {
+        return hash as usize % 32;
+    }
+    hash as usize % shards
+}
+
 // Whether an item of that shard stands at `at`, within `end`; its lengths are, and its key's hash is given.
 fn item_ok(s: &[u8], shards: usize, shard: usize, end: usize, at: usize, hash: u64) -> bool
     requires { ⌜ (at + 32 ≤ end) × (itemNext (now s) at ≤ end) × (end ≤ length (now s)) × (length (now s) < 2 ^ 32) × (hash ≡ sipHash13 (keyAt (now s) at)) × (0 < shards) ⌝ }
@@ -334,7 +353,7 @@ fn item_ok(s: &[u8], shards: usize, shard: usize, end: usize, at: usize, hash: u
     if k > config::MAX_KEY {
         return false;
     }
-    if hash as usize % shards != shard {
+    if home_of(hash, shards) != shard {
         return false;
     }
     let n = buffer::read_u32(s, at + 4) as usize;
@@ -363,7 +382,7 @@ fn items_end(s: &[u8], shards: usize, shard: usize, end: usize, n: usize) -> usi
         at = next_place(s, 32, 24, at);
         i += 1;
     }
-    if !distinct(s, 32, 24, n, 16) {
+    if !many_distinct(s, 32, 24, n, 16) {
         return 0;
     }
     at

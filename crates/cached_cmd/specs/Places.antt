@@ -48,6 +48,26 @@ pub outcome-on : (p : Setup) (bk : Book) (g : Settings) (t e : ℕ) (c : Command
 unfolding outcomeOn outcomeFor
 outcome-on p bk g t e c = ap (plan.outcome c (asks.ask g t c)) (said-dry p bk t e (plan.wants c (asks.ask g t c)))
 
+-- ---- several keys, by how many wait
+
+-- none
+pub item-served : (ps : List plan.Place) (n : Bytes) (path : List Bytes) (x : ℕ) → length (plan.missing ps) ≡ 0
+    → plan.multipleItem (plan.missing ps) n ps path x ≡ plan.cached (plan.values (plan.servedValues ps))
+item-served ps n path x = go (plan.missing ps)
+  where
+    go : (ws : List Wanted) → length ws ≡ 0 → plan.multipleItem ws n ps path x ≡ plan.cached (plan.values (plan.servedValues ps))
+    go [] l = unfold plan.multipleItem in refl
+    go (w ∷ ws) l = absurd (omega arith)
+
+-- some
+pub item-missing : (ps : List plan.Place) (n : Bytes) (path : List Bytes) (x : ℕ) → (length (plan.missing ps) ≡ 0 → ⊥)
+    → plan.multipleItem (plan.missing ps) n ps path x ≡ plan.notCached (plan.multiple n ps path x)
+item-missing ps n path x = go (plan.missing ps)
+  where
+    go : (ws : List Wanted) → (length ws ≡ 0 → ⊥) → plan.multipleItem ws n ps path x ≡ plan.notCached (plan.multiple n ps path x)
+    go [] l = absurd (l refl)
+    go (w ∷ ws) l = unfold plan.multipleItem in refl
+
 module _ (p : Setup) (rows : ℕ → Row) (t e : ℕ) where
   -- each key with its answer
   pub places-on : (ws : List Wanted) → plan.places (saidOn p rows t e ws) ws ≡ placesOn p rows t e ws
@@ -108,6 +128,27 @@ module _ (p : Setup) (rows : ℕ → Row) (t e : ℕ) where
     pub missing-miss : (x : ℕ) → PlaceTold a here (placeOn p rows t e here) (Miss x) → length (missingFrom s v k m) ≡ suc (length (missingFrom s v (r .rest) n))
     unfolding plan.missing
     missing-miss x w = ap length missing-more ∙ rw w
+
+  -- ---- the outcome, by what the command asks for
+
+  module _ (g : Settings) (c : Command) where
+    pub outcome-nothing : asks.ask g t c ≡ asks.nothing → outcomeFor p rows t e g c ≡ plan.ignored
+    unfolding outcomeFor plan.outcome
+    outcome-nothing q = rw q
+
+    pub outcome-uncacheable : asks.ask g t c ≡ asks.uncacheable → outcomeFor p rows t e g c ≡ plan.item plan.notCacheable
+    unfolding outcomeFor plan.outcome
+    outcome-uncacheable q = rw q
+
+    pub outcome-one : (k : Bytes) (x : ℕ) → asks.ask g t c ≡ asks.oneKey k x
+        → outcomeFor p rows t e g c ≡ plan.item (plan.singleItem (placeOn p rows t e (plan.wholeKey c k)) x)
+    unfolding outcomeFor plan.outcome plan.wants plan.place saidOn placeOn
+    outcome-one k x q = rw q
+
+    pub outcome-several : (s : Bytes) (v : Several) (x : ℕ) → asks.ask g t c ≡ asks.severalKeys (severalName (v .json)) (keysIn s v) (pathIn s v) x
+        → outcomeFor p rows t e g c ≡ plan.item (severalItem p rows t e s v x)
+    unfolding outcomeFor plan.outcome plan.wants
+    outcome-several s v x q = rw (q, places-on)
 
   -- ---- the outcome
 

@@ -165,8 +165,8 @@ module _ (c : Counts) where
   -- ---- a push
 
   valued-more : (valid : Bool) (p : Setup) (rows : ℕ → Row) (bytes : Bytes) (h : Held) (a : ℕ)
-      → cond valid (pushes.pushedOn p rows bytes (moreHeld h)) (singles.refusedAs a (moreHeld h))
-      ≡ moreReturned (cond valid (pushes.pushedOn p rows bytes h) (singles.refusedAs a h))
+      → cond valid (pushes.pushedOn p rows (resp.decode bytes) (moreHeld h)) (singles.refusedAs a (moreHeld h))
+      ≡ moreReturned (cond valid (pushes.pushedOn p rows (resp.decode bytes) h) (singles.refusedAs a h))
   unfolding pushes.pushedOn
   valued-more true p rows bytes h a = λ i. record {
     cause = singles.noCause;

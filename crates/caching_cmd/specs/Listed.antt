@@ -1,9 +1,10 @@
 -- The passes over the list of replies, put together: what they find and do is what becomes of the plan. Assumes nothing.
-use mathlib.Core.Path.{_≡_, sym, ap, ap₂, subst, _∙_}
-use mathlib.Core.Bool.{Bool, true}
+use mathlib.Core.Path.{_≡_, refl, sym, ap, ap₂, subst, _∙_}
+use mathlib.Core.Bool.{Bool, true, false, not}
 use mathlib.Core.List.{[]}
 use mathlib.Core.Option.{some}
 use Prim.Native.Nat.{ℕ, _≤_}
+use native.Mathlib.Omega.{arith}
 use lib.ListN.{length}
 use Rattle.buffer.specs.Same.{Bytes}
 use Rattle.config.specs.Causes.{shortAnswer}
@@ -24,10 +25,11 @@ use Rattle.resolve_pass.specs.declared.Room.{Room}
 use Rattle.resolve_pass.specs.declared.Dry.{Dry}
 use Rattle.resolve_pass.specs.declared.Dry.the-variants.{Fits, Short, Wrong}
 use Rattle.resolve_pass.specs.Passes.{spent, dryOf, Starts, Begins, DryIs, Fine}
+use Rattle.resolve_store.specs.Stores.{StorePass}
 use Rattle.caching_cmd.specs.declared.ResolveAnswer.{ResolveAnswer}
 use Rattle.caching_cmd.specs.declared.ResolveAnswer.the-variants.{Refused}
 use Rattle.caching_cmd.specs.declared.Found.the-variants.{No}
-use Rattle.caching_cmd.specs.Parts.{FoundIs, startAt, Listed, ShapeRefused, AllWritten, Judged}
+use Rattle.caching_cmd.specs.Parts.{FoundIs, startAt, Listed, StoredIf, StoredFor, ShapeRefused, AllWritten, Judged}
 use Rattle.caching_cmd.specs.Settle.{wholeRoom, dryFor, dry-says, fine-dry, fine-head, settle-wrong, settle-short, settle-fits}
 use Rattle.caching_cmd.specs.Laws.{PlanRead, plan-read, starts, many-answers, goes-not}
 
@@ -54,6 +56,22 @@ head-fits plan list c mode clock n h b f = fine-head n h (walk mode clock (b .ns
 pub fine-same : (plan list : Bytes) (c : Walk) (mode : CacheMode) (clock h n i m : ℕ) → i ≡ h → m ≡ n → Fine plan list c mode clock h n → Fine plan list c mode clock i m
 fine-same plan list c mode clock h n i m a b f = rw (a, b) f
 
+-- what is not to be kept is not stored; what is, is
+pub stored-not : (g : Settings) (epoch : ℕ) (plan list : Bytes) (c : Walk) (clock : ℕ) (kept : Bool) (s : Bytes) → not kept ≡ true
+    → StoredIf g epoch plan list c clock kept s s 0
+stored-not g epoch plan list c clock true s e = absurd (let z : _≡_ {A = ℕ} 0 1 = cc in omega arith)
+stored-not g epoch plan list c clock false s e = (refl, refl)
+
+pub stored-all : (g : Settings) (epoch : ℕ) (plan list : Bytes) (c : Walk) (clock : ℕ) (kept : Bool) (old new : Bytes) (n : ℕ) → not kept ≡ false
+    → StorePass g epoch plan list c (g .mode) clock old new n → StoredIf g epoch plan list c clock kept old new n
+stored-all g epoch plan list c clock true old new n e h = h
+stored-all g epoch plan list c clock false old new n e h = absurd (let z : _≡_ {A = ℕ} 0 1 = cc in omega arith)
+
+-- what was stored, said of what the dry pass found by either of two equal names
+pub stored-same : (g : Settings) (epoch : ℕ) (plan list : Bytes) (c : Walk) (clock : ℕ) (old new : Bytes) (n : ℕ) (d x : Dry) → d ≡ x
+    → StoredFor g epoch plan list c clock x old new n → StoredFor g epoch plan list c clock d old new n
+stored-same g epoch plan list c clock old new n d x e h = subst (λ (y : Dry). StoredFor g epoch plan list c clock y old new n) (sym e) h
+
 module _ (g : Settings) (epoch : ℕ) (plan list : Bytes) (first : Cursor) (c : Walk) (clock : ℕ) (buffer : Bytes) (ok : isPlan plan ≡ true) (at : c ≡ startAt first)
     (small : length list ≤ maxBytes) (v : Value) (rs : Values) (e : repliesOf (readPlan plan .transaction) v ≡ some rs) (t : Stands list first rs) where
   -- what becomes of the plan
@@ -78,27 +96,33 @@ module _ (g : Settings) (epoch : ℕ) (plan list : Bytes) (first : Cursor) (c : 
         ∙ ap₂ dryOf (q ∙ ap₂ (λ (t : Bool) (i : ℕ). spent (wholeRoom (length buffer)) (length (resultHead t i))) a b) same
         ∙ dry-says (readPlan plan .transaction) result (length buffer) (readPlan plan .commands) (many-answers plan read (g .mode) clock v)
 
-    pub list-wrong : (old new after : Bytes) (r : ResolveAnswer) → d ≡ Wrong → ShapeRefused g epoch plan list c clock old new buffer after r
-        → Judged g (readPlan plan .transaction) epoch result old new buffer after r
-    list-wrong old new after r w h =
-        rw (h .0)
-        (settle-wrong g (readPlan plan .transaction) epoch old buffer result (walk (g .mode) clock (readPlan plan .nodes) none rs) new after (h .2 .0) same
-        (sym w ∙ dry-is) (h .2 .1 (readPlan plan .nodes) none rs here) (h .1))
+    module _ (old new : Bytes) (n : ℕ) (h : StoredFor g epoch plan list c clock d old new n) where
+      -- what was stored, by what the dry pass found
+      stored-as : (x : Dry) → d ≡ x → StoredFor g epoch plan list c clock x old new n
+      stored-as x w = stored-same g epoch plan list c clock old new n x d (sym w) h
 
-    pub list-short : (old : Bytes) → d ≡ Short → Judged g (readPlan plan .transaction) epoch result old old buffer buffer (Refused shortAnswer)
-    list-short old w = settle-short g (readPlan plan .transaction) epoch old buffer result (sym w ∙ dry-is)
+      pub list-wrong : (after : Bytes) (r : ResolveAnswer) → d ≡ Wrong → ShapeRefused buffer after r
+          → Judged g (readPlan plan .transaction) epoch result old new buffer after r
+      list-wrong after r w u =
+          rw (u .0)
+          (settle-wrong g (readPlan plan .transaction) epoch old buffer result (walk (g .mode) clock (readPlan plan .nodes) none rs) new after n same
+          (sym w ∙ dry-is) (stored-as Wrong w (readPlan plan .nodes) none rs here) (u .1))
 
-    pub list-fits : (old new after : Bytes) (r : ResolveAnswer) → d ≡ Fits → AllWritten g epoch plan list c clock transaction k old new buffer after r
-        → Judged g (readPlan plan .transaction) epoch result old new buffer after r
-    list-fits old new after r w h =
-        let i : AllWritten g epoch plan list c clock (readPlan plan .transaction) k old new buffer after r =
-        subst (λ (t : Bool). AllWritten g epoch plan list c clock t k old new buffer after r) a h in
-        let j : AllWritten g epoch plan list c clock (readPlan plan .transaction) (readPlan plan .commands) old new buffer after r =
-        subst (λ (m : ℕ). AllWritten g epoch plan list c clock (readPlan plan .transaction) m old new buffer after r) b i in
-        let z = j (readPlan plan .nodes) none rs here in
-        rw (z .1)
-        (settle-fits g (readPlan plan .transaction) epoch old buffer result (walk (g .mode) clock (readPlan plan .nodes) none rs) (readPlan plan .commands) new after (z .0)
-        (many-answers plan read (g .mode) clock v) same (sym w ∙ dry-is) (z .2) (z .3))
+      pub list-short : d ≡ Short → Judged g (readPlan plan .transaction) epoch result old new buffer buffer (Refused shortAnswer)
+      list-short w =
+          rw (stored-as Short w .0) (settle-short g (readPlan plan .transaction) epoch old buffer result (sym w ∙ dry-is))
+
+      pub list-fits : (after : Bytes) (r : ResolveAnswer) → d ≡ Fits → AllWritten g plan list c clock transaction k n buffer after r
+          → Judged g (readPlan plan .transaction) epoch result old new buffer after r
+      list-fits after r w u =
+          let i : AllWritten g plan list c clock (readPlan plan .transaction) k n buffer after r =
+          subst (λ (t : Bool). AllWritten g plan list c clock t k n buffer after r) a u in
+          let j : AllWritten g plan list c clock (readPlan plan .transaction) (readPlan plan .commands) n buffer after r =
+          subst (λ (m : ℕ). AllWritten g plan list c clock (readPlan plan .transaction) m n buffer after r) b i in
+          let z = j (readPlan plan .nodes) none rs here in
+          rw (z .0)
+          (settle-fits g (readPlan plan .transaction) epoch old buffer result (walk (g .mode) clock (readPlan plan .nodes) none rs) (readPlan plan .commands) new after n
+          (many-answers plan read (g .mode) clock v) same (sym w ∙ dry-is) (stored-as Fits w (readPlan plan .nodes) none rs here) (z .1))
 
 -- where no list is found
 pub none-found : (plan replies : Bytes) (mode : CacheMode) (clock : ℕ) (v : Value) → FoundIs replies No (repliesOf (readPlan plan .transaction) v)

@@ -1,6 +1,6 @@
 -- What each function of resolving answers and leaves. Assumes nothing: these are definitions.
 use mathlib.Core.Path.{_≡_}
-use mathlib.Core.Bool.{Bool}
+use mathlib.Core.Bool.{Bool, true, false}
 use mathlib.Core.List.{List}
 use mathlib.Core.Option.{Option, some}
 use mathlib.Core.Option as option
@@ -28,7 +28,9 @@ use Rattle.resolve_walk.specs.Walk.{walk}
 use Rattle.resolve_walk.specs.Same.{resultHead}
 use Rattle.resolve_step.specs.declared.Walk.{Walk}
 use Rattle.resolve_pass.specs.Passes.{Starts, answerBytes}
-use Rattle.resolve_store.specs.Stores.{Stores, walkedStores}
+use Rattle.resolve_pass.specs.declared.Dry.{Dry}
+use Rattle.resolve_pass.specs.declared.Dry.the-variants.{Fits, Short, Wrong}
+use Rattle.resolve_store.specs.Stores.{StorePass}
 use Rattle.caching_cmd.specs.declared.ResolveAnswer.{ResolveAnswer}
 use Rattle.caching_cmd.specs.declared.ResolveAnswer.the-variants.{Answered, Refused}
 use Rattle.caching_cmd.specs.declared.Found.{Found}
@@ -59,16 +61,27 @@ pub record Listed (s : Bytes) (first : Cursor) : Type 0 where
 
 -- ---- the passes together
 
-abbrev pub ShapeRefused : Settings → ℕ → Bytes → Bytes → Walk → ℕ → Bytes → Bytes → Bytes → Bytes → ResolveAnswer → Type 0
-ShapeRefused g epoch p s c clock old new buffer after r =
-    (r ≡ Refused badShape) × (after ≡ replicate (length buffer) 0)
-    × ((n : ℕ) × ((ns : List Node) (es rs : Values) → Starts p s c ns es rs → Stores g epoch (walkedStores (walk (g .mode) clock ns es rs)) old new n))
+-- what was fetched is stored, where it is to be kept; else the arena stays as it is
+abbrev pub StoredIf : Settings → ℕ → Bytes → Bytes → Walk → ℕ → Bool → Bytes → Bytes → ℕ → Type 0
+StoredIf g epoch p s c clock true old new n = StorePass g epoch p s c (g .mode) clock old new n
+StoredIf g epoch p s c clock false old new n = (new ≡ old) × (n ≡ 0)
 
-abbrev pub AllWritten : Settings → ℕ → Bytes → Bytes → Walk → ℕ → Bool → ℕ → Bytes → Bytes → Bytes → Bytes → ResolveAnswer → Type 0
-AllWritten g epoch p s c clock transaction k old new buffer after r =
+-- 7: "stores of earlier commands remain"; 8 leaves all as it was
+abbrev pub isKept : Dry → Bool
+isKept Wrong = true
+isKept Short = false
+isKept Fits = true
+
+abbrev pub StoredFor : Settings → ℕ → Bytes → Bytes → Walk → ℕ → Dry → Bytes → Bytes → ℕ → Type 0
+StoredFor g epoch p s c clock found old new n = StoredIf g epoch p s c clock (isKept found) old new n
+
+abbrev pub ShapeRefused : Bytes → Bytes → ResolveAnswer → Type 0
+ShapeRefused buffer after r = (r ≡ Refused badShape) × (after ≡ replicate (length buffer) 0)
+
+abbrev pub AllWritten : Settings → Bytes → Bytes → Walk → ℕ → Bool → ℕ → ℕ → Bytes → Bytes → ResolveAnswer → Type 0
+AllWritten g p s c clock transaction k refused buffer after r =
     (ns : List Node) (es rs : Values) → Starts p s c ns es rs
-    → (n : ℕ) × (r ≡ Answered (length (resultHead transaction k) + length (answerBytes (walk (g .mode) clock ns es rs))) n)
-    × Stores g epoch (walkedStores (walk (g .mode) clock ns es rs)) old new n
+    → (r ≡ Answered (length (resultHead transaction k) + length (answerBytes (walk (g .mode) clock ns es rs))) refused)
     × (after ≡ put (put buffer 0 (resultHead transaction k)) (length (resultHead transaction k)) (answerBytes (walk (g .mode) clock ns es rs)))
 
 -- ---- on the book

@@ -19,7 +19,7 @@ ghost use Rattle.plan.specs.Decode.{readPlan, isPlan};
 ghost use Rattle.resolve_walk.specs.Same.{resultHead};
 ghost use Rattle.resolve_pass.specs.Passes.{Begins, Fine};
 ghost use Rattle.caching_cmd.specs.Call.{resolveCall, Comes};
-ghost use Rattle.caching_cmd.specs.Parts.{startAt, Finds, Listed, ShapeRefused, AllWritten, ListResolved, CheckedResolved, AdmittedResolved};
+ghost use Rattle.caching_cmd.specs.Parts.{startAt, Finds, Listed, StoredIf, StoredFor, ShapeRefused, AllWritten, ListResolved, CheckedResolved, AdmittedResolved};
 
 // What resolving comes to.
 pub enum ResolveAnswer {
@@ -111,8 +111,8 @@ pub fn write_result_head(answer: &mut [u8], transaction: bool, n: u64) -> usize
     cmd::write_head(answer, 0, b'*', n)
 }
 
-// Cause 7: stores of earlier commands remain, and the whole answer buffer is zeroed.
-fn refuse_shape(
+// Stores what was fetched where it is to be kept, and else nothing: how many stores there was no space for.
+fn store_if(
     arena: &mut [u8],
     g: Settings,
     plan: &[u8],
@@ -120,36 +120,64 @@ fn refuse_shape(
     start: Walk,
     clock: u64,
     epoch: u64,
-    answer: &mut [u8],
-) -> ResolveAnswer
+    kept: bool,
+) -> u64
     requires { ⌜ Arena g (now arena) × Begins (now plan) (now list) start ⌝ }
-    ensures { λ r. ⌜ ShapeRefused g epoch (now (plan .entry)) (now (list .entry)) start clock (now (arena .entry)) (now (arena .exit)) (now (answer .entry)) (now (answer .exit)) r ⌝ }
+    ensures { λ r. ⌜ StoredIf g epoch (now (plan .entry)) (now (list .entry)) start clock kept (now (arena .entry)) (now (arena .exit)) r ⌝ }
 {
     let mode = g.mode;
+    if !kept {
+        return 0;
+    }
+    resolve_store::store_pass(arena, g, plan, list, start, mode, clock, epoch)
+}
+
+// What a resolving stores, by what the dry pass found: where 7 refuses it, what was fetched before the reply that does not fit; where 8 does, nothing.
+fn store_found(
+    arena: &mut [u8],
+    g: Settings,
+    plan: &[u8],
+    list: &[u8],
+    start: Walk,
+    clock: u64,
+    epoch: u64,
+    found: Dry,
+) -> u64
+    requires { ⌜ Arena g (now arena) × Begins (now plan) (now list) start ⌝ }
+    ensures { λ r. ⌜ StoredFor g epoch (now (plan .entry)) (now (list .entry)) start clock found (now (arena .entry)) (now (arena .exit)) r ⌝ }
+{
+    match found {
+        Dry::Wrong => store_if(arena, g, plan, list, start, clock, epoch, true),
+        Dry::Short => store_if(arena, g, plan, list, start, clock, epoch, false),
+        Dry::Fits => store_if(arena, g, plan, list, start, clock, epoch, true),
+    }
+}
+
+// Cause 7: the whole answer buffer is zeroed.
+fn refuse_shape(answer: &mut [u8]) -> ResolveAnswer
+    ensures { λ r. ⌜ ShapeRefused (now (answer .entry)) (now (answer .exit)) r ⌝ }
+{
     let n = answer.len();
-    resolve_store::store_pass(arena, g, plan, list, start, mode, clock, epoch);
     buffer::fill_zero(answer, 0, n);
     ResolveAnswer::Refused(config::BAD_SHAPE)
 }
 
-// Stores, and writes the result.
+// Writes the result, with the number of stores that there was no space for.
 fn write_result<'a>(
-    arena: &mut [u8],
     g: Settings,
     plan: &'a [u8],
     list: &'a [u8],
     start: Walk,
     clock: u64,
-    epoch: u64,
     transaction: bool,
     n: u64,
     answer: &mut [u8],
+    refused: u64,
 ) -> ResolveAnswer
-    requires { ⌜ Arena g (now arena) × Begins (now plan) (now list) start × (length (resultHead transaction n) ≤ length (now answer)) × Fine (now plan) (now list) start (g .mode) clock (length (resultHead transaction n)) (length (now answer)) ⌝ }
-    ensures { λ r. ⌜ AllWritten g epoch (now (plan .entry)) (now (list .entry)) start clock transaction n (now (arena .entry)) (now (arena .exit)) (now (answer .entry)) (now (answer .exit)) r ⌝ }
+    requires { ⌜ Begins (now plan) (now list) start × (length (resultHead transaction n) ≤ length (now answer)) × Fine (now plan) (now list) start (g .mode) clock (length (resultHead transaction n)) (length (now answer)) ⌝ }
+    ensures { λ r. ⌜ AllWritten g (now (plan .entry)) (now (list .entry)) start clock transaction n refused (now (answer .entry)) (now (answer .exit)) r ⌝ }
 {
     let mode = g.mode;
-    let refused = resolve_store::store_pass(arena, g, plan, list, start, mode, clock, epoch);
     let at = write_result_head(answer, transaction, n);
     let end = resolve_pass::answer_pass(plan, list, start, mode, clock, answer, at);
     ResolveAnswer::Answered(end, refused)
@@ -178,23 +206,12 @@ fn resolve_list<'a>(
         short: false,
     };
     let room = resolve_pass::spend(whole, head_len(transaction, n));
-    match resolve_pass::dry_pass(plan, list, start, mode, clock, room) {
-        Dry::Wrong => refuse_shape(arena, g, plan, list, start, clock, epoch, answer),
+    let found = resolve_pass::dry_pass(plan, list, start, mode, clock, room);
+    let refused = store_found(arena, g, plan, list, start, clock, epoch, found);
+    match found {
+        Dry::Wrong => refuse_shape(answer),
         Dry::Short => ResolveAnswer::Refused(config::SHORT_ANSWER),
-        Dry::Fits => {
-            write_result(
-                arena,
-                g,
-                plan,
-                list,
-                start,
-                clock,
-                epoch,
-                transaction,
-                n,
-                answer,
-            )
-        }
+        Dry::Fits => { write_result(g, plan, list, start, clock, transaction, n, answer, refused) }
     }
 }
 

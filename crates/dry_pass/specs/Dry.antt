@@ -15,9 +15,14 @@ use Rattle.cursor.specs.Steps.{commands-none, commands-more, commands-in}
 use Rattle.cursor.specs.declared.Head.{Head}
 use Rattle.book.specs.Book.{Row}
 use Rattle.planning.specs.Ask.{anyLate}
+use Rattle.planning.specs.Outcome.{CachingResult}
 use Rattle.ask.specs.Asked.{late, OnTime}
 use Rattle.sharded_lru.specs.Lent.{setupNow, Lent}
+use Rattle.cached_cmd.specs.Result.{outcomeFor}
+use Rattle.plan_sizes.specs.Nodes.{nodesAs}
 use Rattle.plan_sizes.specs.Sizes.{nodesFor, sentFor, allNodes, allSent}
+use Rattle.pack_command.specs.Sends.{sentAs}
+use Rattle.dry_pass.specs.Size.{SizedAs}
 use Rattle.dry_pass.specs.Room.{spent, spent-none, spent-more}
 use Rattle.dry_pass.specs.declared.Room.{Room}
 use Rattle.dry_pass.specs.declared.Size.{Size}
@@ -74,6 +79,15 @@ module _ (g : Settings) (t : ℕ) (s : Bytes) (m n at : ℕ) (q : m ≡ n + 1) (
 pub record SizeIs (g : Settings) (rows : ℕ → Row) (t e : ℕ) (c : Command) (z : Size) : Type 0 where
   pub plan : z .plan ≡ length (nodesFor (setupNow g) rows t e g c)
   pub send : z .send ≡ length (sentFor (setupNow g) rows t e g c)
+
+-- from the outcome's
+pub sized-is : (g : Settings) (rows : ℕ → Row) (t e : ℕ) (c : Command) (o : CachingResult) (z : Size) → outcomeFor (setupNow g) rows t e g c ≡ o → SizedAs (g .mode) c o z
+    → SizeIs g rows t e c z
+sized-is g rows t e c o z q w =
+    record {
+      plan = w .plan ∙ ap (λ (x : CachingResult). length (nodesAs x)) (sym q);
+      send = w .send ∙ ap (λ (x : CachingResult). length (sentAs (g .mode) c x)) (sym q);
+    }
 
 -- the rooms p and q, with the commands from `at` on still to be taken, come to what they were at the start, with all of them
 pub record Walked (g : Settings) (a s : Bytes) (t e : ℕ) (m₀ at₀ : ℕ) (p₀ q₀ : Room) (m at : ℕ) (p q : Room) : Type 0 where

@@ -1,18 +1,29 @@
 // The dry pass of planning: whether what planning writes fits its two buffers, found by peeking, before anything is written or looked up.
-// specs/Room.antt counts the room down; plan_sizes says what is written for each command.
+// specs/Size.antt measures a command, specs/Room.antt counts the room down; plan_sizes says what is written for each command.
+use ask::Asked;
+use ask::Several;
+use command_key::CommandKey;
 use config::Settings;
 use cursor::Commands;
 use cursor::Head;
+use cursor::Range;
+use shard_lookup::Looked;
 ghost use mathlib.Core.Path.{_≡_};
 ghost use mathlib.Core.Bool.{_||_};
 ghost use Prim.Native.Nat.{ℕ, _≤_};
 ghost use lib.ListN.{length};
-ghost use Rattle.config.specs.Limits.{maxBytes};
-ghost use Rattle.cursor.specs.At.{commandOf, commandsOf};
+ghost use Rattle.config.specs.Limits.{maxBytes, maxArguments};
+ghost use Rattle.config.specs.declared.CacheMode.{CacheMode};
+ghost use Rattle.call_record.specs.Record.{Command};
+ghost use Rattle.cursor.specs.At.{rangeBytes, RangeIn, ArgsHere, commandOf, commandsOf};
 ghost use Rattle.book.specs.Book.{Row};
+ghost use Rattle.planning.specs.Outcome.{ignored, item, notCacheable, singleItem, wholeKey};
+ghost use Rattle.ask.specs.Asked.{SeveralIn};
 ghost use Rattle.sharded_lru.specs.Lent.{setupNow, Lent, Arena};
+ghost use Rattle.cached_cmd.specs.Result.{placeOn, severalItem, PlaceTold};
 ghost use Rattle.plan_sizes.specs.Sizes.{allNodes, allSent};
 ghost use Rattle.dry_pass.specs.Room.{spent};
+ghost use Rattle.dry_pass.specs.Size.{SizedAs};
 ghost use Rattle.dry_pass.specs.Dry.{Planable, One, SizeIs};
 
 // What room is left in a buffer; or it was short.
@@ -44,17 +55,96 @@ pub fn spend(room: Room, n: usize) -> Room
     }
 }
 
-// The bytes that one command takes.
-fn size_of(bytes: &[u8], head: Head, arena: &[u8], g: Settings, clock: u64, epoch: u64) -> Size
+// The bytes that a command takes whose reply is handed on: a node, and the command itself.
+fn size_own(bytes: &[u8], head: Head) -> Size
+    requires { ⌜ ArgsHere (now bytes) (head .args) × (length (now bytes) ≤ maxBytes) × (head .args .left ≤ maxArguments) ⌝ }
+    ensures { λ r. ⌜ ((m : CacheMode) → SizedAs m (commandOf (now (bytes .entry)) head) ignored r × SizedAs m (commandOf (now (bytes .entry)) head) (item notCacheable) r) ⌝ }
+{
+    Size {
+        plan: plan_write::NODE_HEAD,
+        send: pipeline::own_len(bytes, head),
+    }
+}
+
+// One key of a command, peeked.
+fn peek_one(
+    bytes: &[u8],
+    head: Head,
+    key: Range,
+    arena: &[u8],
+    g: Settings,
+    clock: u64,
+    epoch: u64,
+) -> Looked
+    requires { ⌜ ArgsHere (now bytes) (head .args) × RangeIn (now bytes) key × Arena g (now arena) ⌝ }
+    ensures { λ r. ⌜ ((rows : ℕ → Row) → Lent g (now (arena .entry)) rows → PlaceTold (now (arena .entry)) (wholeKey (commandOf (now (bytes .entry)) head) (rangeBytes (now (bytes .entry)) key)) (placeOn (setupNow g) rows clock epoch (wholeKey (commandOf (now (bytes .entry)) head) (rangeBytes (now (bytes .entry)) key))) r) ⌝ }
+{
+    let text = cursor::bytes_in(bytes, key);
+    let args = head.args;
+    let command = CommandKey::Joined(args);
+    sharded_lru::peek(arena, g, text, bytes, command, clock, epoch)
+}
+
+// The bytes that a command with one key takes.
+fn size_one(
+    bytes: &[u8],
+    head: Head,
+    key: Range,
+    arena: &[u8],
+    g: Settings,
+    clock: u64,
+    epoch: u64,
+) -> Size
+    requires { ⌜ ArgsHere (now bytes) (head .args) × (length (now bytes) ≤ maxBytes) × (head .args .left ≤ maxArguments) × RangeIn (now bytes) key × Arena g (now arena) ⌝ }
+    ensures { λ r. ⌜ ((rows : ℕ → Row) → Lent g (now (arena .entry)) rows → (x : ℕ) → SizedAs (g .mode) (commandOf (now (bytes .entry)) head) (item (singleItem (placeOn (setupNow g) rows clock epoch (wholeKey (commandOf (now (bytes .entry)) head) (rangeBytes (now (bytes .entry)) key))) x)) r) ⌝ }
+{
+    let mode = g.mode;
+    let args = head.args;
+    match peek_one(bytes, head, key, arena, g, clock, epoch) {
+        Looked::Hit { from, to } => Size {
+            plan: plan_write::NODE_HEAD + (to - from),
+            send: 0,
+        },
+        Looked::Miss(_) => {
+            let text = cursor::bytes_in(bytes, key);
+            Size {
+                plan: plan_write::missing_len(text, bytes, CommandKey::Joined(args)),
+                send: pipeline::opt_in_len(mode) + pipeline::single_len(bytes, head, key),
+            }
+        }
+    }
+}
+
+// The bytes that a command with several keys takes.
+fn size_several(bytes: &[u8], v: Several, arena: &[u8], g: Settings, clock: u64, epoch: u64) -> Size
+    requires { ⌜ SeveralIn (now bytes) v × (length (now bytes) ≤ maxBytes) × Arena g (now arena) ⌝ }
+    ensures { λ r. ⌜ ((rows : ℕ → Row) → Lent g (now (arena .entry)) rows → (c : Command) (x : ℕ) → SizedAs (g .mode) c (item (severalItem (setupNow g) rows clock epoch (now (bytes .entry)) v x)) r) ⌝ }
+{
+    let mode = g.mode;
+    let m = several_keys::measure(bytes, v, arena, g, clock, epoch);
+    if m.missing == 0 {
+        Size {
+            plan: plan_write::NODE_HEAD + m.nodes,
+            send: 0,
+        }
+    } else {
+        Size {
+            plan: 2 * plan_write::NODE_HEAD + m.nodes,
+            send: pipeline::opt_in_len(mode) + pipeline::several_len(bytes, v, m),
+        }
+    }
+}
+
+// The bytes that one command takes: each of its keys is peeked once.
+pub fn size_of(bytes: &[u8], head: Head, arena: &[u8], g: Settings, clock: u64, epoch: u64) -> Size
     requires { ⌜ One g clock (now bytes) head × (length (now bytes) ≤ maxBytes) × Arena g (now arena) ⌝ }
     ensures { λ r. ⌜ ((rows : ℕ → Row) → Lent g (now (arena .entry)) rows → SizeIs g rows clock epoch (commandOf (now (bytes .entry)) head) r) ⌝ }
 {
-    let result = cached_cmd::get_cached_cmd(bytes, head, arena, g, clock, epoch);
-    let plan = plan_nodes::plan_len(bytes, head, result, arena, g, clock, epoch);
-    let send = pipeline::send_len(bytes, head, result, arena, g, clock, epoch);
-    Size {
-        plan: plan,
-        send: send,
+    match ask::ask(bytes, head, g, clock) {
+        Asked::Nothing => size_own(bytes, head),
+        Asked::Uncacheable => size_own(bytes, head),
+        Asked::OneKey(key, _) => size_one(bytes, head, key, arena, g, clock, epoch),
+        Asked::SeveralKeys(v, _) => size_several(bytes, v, arena, g, clock, epoch),
     }
 }
 

@@ -20,7 +20,7 @@ ghost use Rattle.cmd.specs.Laws.{Wrote};
 ghost use Rattle.ask.specs.Asked.{severalName, pathIn, SeveralIn};
 ghost use Rattle.sharded_lru.specs.Lent.{Arena};
 ghost use Rattle.several_keys.specs.Pieces.{Inside, Fits, Puts};
-ghost use Rattle.pack_command.specs.Sends.{cachingBytes, singleBytes, argumentCount, getName, getBytes, severalBytes, commandSent, CommandInside, sentFor};
+ghost use Rattle.pack_command.specs.Sends.{cachingBytes, halfBytes, singleBytes, argumentCount, getName, getBytes, severalBytes, commandSent, CommandInside, sentFor};
 
 // `CLIENT CACHING YES`, in opt-in mode.
 fn write_opt_in(dst: &mut [u8], to: usize, mode: CacheMode) -> usize
@@ -33,15 +33,31 @@ fn write_opt_in(dst: &mut [u8], to: usize, mode: CacheMode) -> usize
     }
 }
 
+// One of the two commands that are sent for one missing key: `PTTL` and the key, or the command itself.
+enum Half {
+    Pttl,
+    Own,
+}
+
+fn write_half(dst: &mut [u8], to: usize, half: Half, bytes: &[u8], head: Head, key: Range) -> usize
+    requires { ⌜ ArgsHere (now bytes) (head .args) × RangeIn (now bytes) key × (to + length (halfBytes (now bytes) head key half) ≤ length (now dst)) ⌝ }
+    ensures { λ r. ⌜ Wrote (now (dst .entry)) to (halfBytes (now (bytes .entry)) head key half) (now (dst .exit)) r ⌝ }
+{
+    let text = cursor::bytes_in(bytes, key);
+    let args = head.args;
+    match half {
+        Half::Pttl => cmd::write_pttl(dst, to, text),
+        Half::Own => cmd::write_command(bytes, args, head.cursor, dst, to),
+    }
+}
+
 // For one missing key: `PTTL` and the key, and then the command.
 fn write_single(dst: &mut [u8], to: usize, bytes: &[u8], head: Head, key: Range) -> usize
     requires { ⌜ ArgsHere (now bytes) (head .args) × RangeIn (now bytes) key × (to + length (singleBytes (now bytes) head key) ≤ length (now dst)) ⌝ }
     ensures { λ r. ⌜ Wrote (now (dst .entry)) to (singleBytes (now (bytes .entry)) head key) (now (dst .exit)) r ⌝ }
 {
-    let text = cursor::bytes_in(bytes, key);
-    let args = head.args;
-    let next = cmd::write_pttl(dst, to, text);
-    cmd::write_command(bytes, args, head.cursor, dst, next)
+    let next = write_half(dst, to, Half::Pttl, bytes, head, key);
+    write_half(dst, next, Half::Own, bytes, head, key)
 }
 
 // How many arguments are sent for several keys of which n are missing: the name, these keys, and a path for JSON.

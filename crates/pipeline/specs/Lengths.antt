@@ -1,7 +1,7 @@
 -- How long that is which is sent for a command, case by case. Assumes nothing.
 use mathlib.Core.Path.{_≡_, refl, sym, ap, _∙_}
 use mathlib.Core.Bool.{Bool, true, false}
-use mathlib.Core.List.{_++_}
+use mathlib.Core.List.{List, [], _∷_, _++_}
 use Prim.Native.Nat.{ℕ, zero, suc, _+_, _*_, _-_, _^_, _≤_, _<_}
 use native.Mathlib.Omega.{arith}
 use native.Mathlib.Numerals.{add-one}
@@ -10,7 +10,6 @@ use Rattle.buffer.specs.Same.{Bytes}
 use Rattle.config.specs.Limits.{maxBytes, maxArguments}
 use Rattle.config.specs.declared.CacheMode.{CacheMode}
 use Rattle.config.specs.declared.CacheMode.the-variants.{All, OptIn}
-use Rattle.config.specs.declared.Settings.{Settings}
 use Rattle.decimal.specs.Digits.{digits}
 use Rattle.decimal.specs.DigitLaws.{count-max}
 use Rattle.cursor.specs.At.{rangeBytes, RangeIn, nextAt, argAt, ArgsIn, ArgsHere}
@@ -19,13 +18,12 @@ use Rattle.cursor.specs.declared.Head.{Head}
 use Rattle.cursor.specs.declared.Range.{Range}
 use Rattle.command_key.specs.Keys.{range-length}
 use Rattle.cmd.specs.Pack.{sent, packed, pttlTexts, head, blob, blobBytes}
-use Rattle.cmd.specs.Laws.{bounded, head-length, blob-length, blobsAt, blobs-none, blobs-length, packed-length, pttlStart, pttl-pieces, caching-is}
-use Rattle.book.specs.Book.{Row}
+use Rattle.cmd.specs.Laws.{bounded, head-length, blob-length, blobsAt, blobs-none, blobs-length, packed-length, pttlStart, pttl-pieces, caching-is, pttl-length}
+use Rattle.format.specs.Runs.{encAll}
+use Rattle.planning.specs.Sent.{pttls}
 use Rattle.ask.specs.Asked.{severalName, pathIn, SeveralIn}
 use Rattle.ask.specs.declared.Several.{Several}
-use Rattle.several_keys.specs.Pieces.{pieces, placesNow}
-use Rattle.several_keys.specs.declared.Piece.the-variants.{Key, Pttl}
-use Rattle.pack_command.specs.Sends.{cachingBytes, caching-all, caching-opt-in, ownBytes, singleBytes, argumentCount, getName, getBytes, severalBytes, path-json, path-none, name-json, name-plain}
+use Rattle.pack_command.specs.Sends.{cachingBytes, caching-all, caching-opt-in, ownBytes, singleBytes, argumentCount, getName, severalWith, path-json, path-none, name-json, name-plain}
 
 -- ---- `CLIENT CACHING YES`
 
@@ -121,12 +119,24 @@ path-length s v x w m k j p =
 pub no-path : (s : Bytes) (v : Several) → SeveralIn s v → v .json ≡ false → (0 ≡ length (blobBytes (pathIn s v))) × (0 ≤ 2 ^ 32)
 no-path s v w j = (sym (ap length (path-none s v w j)), omega arith)
 
+-- a `PTTL` for each key
+pttls-length : (ks : List Bytes) → length (encAll packed (pttls ks)) ≡ length (blobBytes ks) + 14 * length ks
+unfolding pttls blobBytes
+pttls-length [] = refl
+pttls-length (k ∷ ks) =
+    let i = pttls-length ks in
+    let a = length-append (packed (pttlTexts k)) (encAll packed (pttls ks)) in
+    let b = length-append (blob k) (blobBytes ks) in
+    let c = pttl-length k in
+    let d = blob-length k in
+    omega arith
+
 -- all of it
-pub several-length : (g : Settings) (rows : ℕ → Row) (t e : ℕ) (s : Bytes) (v : Several) (n : ℕ)
-    → length (severalBytes g rows t e s v n) ≡ length (getName (v .json) n) + length (pieces Key (placesNow g rows t e s v)) + length (blobBytes (pathIn s v)) + length (pieces Pttl (placesNow g rows t e s v))
-several-length g rows t e s v n =
-    let ps = placesNow g rows t e s v in
-    let a = length-append (getBytes g rows t e s v n) (pieces Pttl ps) in
-    let b = length-append (getName (v .json) n) (pieces Key ps ++ blobBytes (pathIn s v)) in
-    let c = length-append (pieces Key ps) (blobBytes (pathIn s v)) in
+pub several-length : (s : Bytes) (v : Several) (n : ℕ) (ks : List Bytes)
+    → length (severalWith s v n ks) ≡ length (getName (v .json) n) + length (blobBytes ks) + length (blobBytes (pathIn s v)) + (length (blobBytes ks) + 14 * length ks)
+several-length s v n ks =
+    let a = length-append (getName (v .json) n ++ (blobBytes ks ++ blobBytes (pathIn s v))) (encAll packed (pttls ks)) in
+    let b = length-append (getName (v .json) n) (blobBytes ks ++ blobBytes (pathIn s v)) in
+    let c = length-append (blobBytes ks) (blobBytes (pathIn s v)) in
+    let d = pttls-length ks in
     omega arith

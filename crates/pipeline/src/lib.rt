@@ -8,10 +8,12 @@ use config::CacheMode;
 use config::Settings;
 use cursor::Head;
 use cursor::Range;
-use several_keys::Piece;
+use several_keys::Measured;
 ghost use mathlib.Core.Path.{_≡_};
+ghost use mathlib.Core.List.{List};
 ghost use Prim.Native.Nat.{ℕ, _+_, _^_, _≤_, _<_};
 ghost use lib.ListN.{length};
+ghost use Rattle.buffer.specs.Same.{Bytes};
 ghost use Rattle.config.specs.Limits.{maxBytes, maxArguments};
 ghost use Rattle.cursor.specs.At.{RangeIn, ArgsHere, commandOf};
 ghost use Rattle.cmd.specs.Pack.{blob, blobBytes};
@@ -22,12 +24,13 @@ ghost use Rattle.ask.specs.Asked.{severalName, pathIn, SeveralIn};
 ghost use Rattle.sharded_lru.specs.Lent.{Lent, Arena, setupNow};
 ghost use Rattle.cached_cmd.specs.Result.{commandFor, resultOf};
 ghost use Rattle.several_keys.specs.Pieces.{Inside};
-ghost use Rattle.pack_command.specs.Sends.{cachingBytes, ownBytes, singleBytes, getName, severalBytes, packsBytes, CommandInside, sentFor};
+ghost use Rattle.several_keys.specs.Measure.{Bounded};
+ghost use Rattle.pack_command.specs.Sends.{cachingBytes, ownBytes, singleBytes, getName, severalWith, CommandInside};
 ghost use Rattle.pipeline.specs.Wrapped.{startBytes, endBytes};
 ghost use Rattle.pipeline.specs.Lengths.{optInCount};
 
 // How long `CLIENT CACHING YES` is, in opt-in mode.
-fn opt_in_len(mode: CacheMode) -> usize
+pub fn opt_in_len(mode: CacheMode) -> usize
     ensures { λ r. ⌜ (r ≡ length (cachingBytes mode)) × (r ≤ 38) ⌝ }
 {
     match mode {
@@ -37,7 +40,7 @@ fn opt_in_len(mode: CacheMode) -> usize
 }
 
 // How long the command itself is.
-fn own_len(bytes: &[u8], head: Head) -> usize
+pub fn own_len(bytes: &[u8], head: Head) -> usize
     requires { ⌜ ArgsHere (now bytes) (head .args) × (length (now bytes) ≤ maxBytes) × (head .args .left ≤ maxArguments) ⌝ }
     ensures { λ r. ⌜ (r ≡ length (ownBytes (now (bytes .entry)) head)) × (r ≤ 2 ^ 32) ⌝ }
 {
@@ -46,7 +49,7 @@ fn own_len(bytes: &[u8], head: Head) -> usize
 }
 
 // For one missing key: `PTTL` and the key, and the command.
-fn single_len(bytes: &[u8], head: Head, key: Range) -> usize
+pub fn single_len(bytes: &[u8], head: Head, key: Range) -> usize
     requires { ⌜ ArgsHere (now bytes) (head .args) × (length (now bytes) ≤ maxBytes) × (head .args .left ≤ maxArguments) × RangeIn (now bytes) key ⌝ }
     ensures { λ r. ⌜ (r ≡ length (singleBytes (now (bytes .entry)) head key)) × (r ≤ 2 ^ 57) ⌝ }
 {
@@ -82,67 +85,13 @@ fn path_len(bytes: &[u8], v: Several) -> usize
     }
 }
 
-// For several keys: the name with the n missing ones and the path, and a `PTTL` for each.
-fn several_len(
-    bytes: &[u8],
-    v: Several,
-    n: usize,
-    arena: &[u8],
-    g: Settings,
-    clock: u64,
-    epoch: u64,
-) -> usize
-    requires { ⌜ SeveralIn (now bytes) v × (length (now bytes) ≤ maxBytes) × Arena g (now arena) × (0 < v .keys) × (n ≤ maxBytes) ⌝ }
-    ensures { λ r. ⌜ ((rows : ℕ → Row) → Lent g (now (arena .entry)) rows → r ≡ length (severalBytes g rows clock epoch (now (bytes .entry)) v n)) × (r ≤ 2 ^ 58) ⌝ }
+// For several keys, as they were measured: the name with the missing ones and the path, and a `PTTL` for each.
+pub fn several_len(bytes: &[u8], v: Several, m: Measured) -> usize
+    requires { ⌜ SeveralIn (now bytes) v × (length (now bytes) ≤ maxBytes) × (0 < v .keys) × Bounded maxBytes m ⌝ }
+    ensures { λ r. ⌜ ((ks : List Bytes) → m .missing ≡ length ks → m .keys ≡ length (blobBytes ks) → r ≡ length (severalWith (now (bytes .entry)) v (m .missing) ks)) × (r ≤ 2 ^ 58) ⌝ }
 {
-    let keys = several_keys::places_len(Piece::Key, bytes, v, arena, g, clock, epoch);
-    let pttls = several_keys::places_len(Piece::Pttl, bytes, v, arena, g, clock, epoch);
-    get_len(v.json, n) + keys + path_len(bytes, v) + pttls
-}
-
-// For what is missing.
-fn packs_len(
-    bytes: &[u8],
-    head: Head,
-    cc: CacheableCommand,
-    arena: &[u8],
-    g: Settings,
-    clock: u64,
-    epoch: u64,
-) -> usize
-    requires { ⌜ ArgsHere (now bytes) (head .args) × (length (now bytes) ≤ maxBytes) × (head .args .left ≤ maxArguments) × Arena g (now arena) × CommandInside g (now arena) clock epoch (now bytes) head cc ⌝ }
-    ensures { λ r. ⌜ ((rows : ℕ → Row) → Lent g (now (arena .entry)) rows → r ≡ length (packsBytes g rows clock epoch (now (bytes .entry)) (now (arena .entry)) head cc)) × (r ≤ 2 ^ 58) ⌝ }
-{
-    match cc {
-        CacheableCommand::Single(key, _) => single_len(bytes, head, key),
-        CacheableCommand::Multiple(v, n, _) => several_len(bytes, v, n, arena, g, clock, epoch),
-    }
-}
-
-// How long that is which is sent for a command.
-pub fn send_len(
-    bytes: &[u8],
-    head: Head,
-    r: CachingResult,
-    arena: &[u8],
-    g: Settings,
-    clock: u64,
-    epoch: u64,
-) -> usize
-    requires { ⌜ ArgsHere (now bytes) (head .args) × (length (now bytes) ≤ maxBytes) × (head .args .left ≤ maxArguments) × Arena g (now arena) × Inside g (now arena) clock epoch (now bytes) head r ⌝ }
-    ensures { λ n. ⌜ ((rows : ℕ → Row) → Lent g (now (arena .entry)) rows → n ≡ length (sentFor g rows clock epoch (now (bytes .entry)) (now (arena .entry)) head r)) × (n ≤ 2 ^ 59) ⌝ }
-{
-    let mode = g.mode;
-    match r {
-        CachingResult::Ignored => own_len(bytes, head),
-        CachingResult::Item(i) => match i {
-            PrepCacheItem::Cached(_) => 0,
-            PrepCacheItem::NotCached(cc) => {
-                opt_in_len(mode) + packs_len(bytes, head, cc, arena, g, clock, epoch)
-            }
-            PrepCacheItem::NotCacheable => own_len(bytes, head),
-        },
-    }
+    let pttls = m.keys + 14 * m.missing;
+    get_len(v.json, m.missing) + m.keys + path_len(bytes, v) + pttls
 }
 
 // How many commands `CLIENT CACHING YES` is: one in opt-in mode.

@@ -1,4 +1,4 @@
-// A command's nodes in the plan, from its outcome: how long they are, and written at a place. The outcome is what `get_cached_cmd` tells of the command; for
+// A command's nodes in the plan, from its outcome, written at a place. The outcome is what `get_cached_cmd` tells of the command; for
 // several keys each place is peeked again (crate several_keys). specs/Nodes.antt says which bytes those are.
 use ask::Several;
 use cached_cmd::CacheableCommand;
@@ -10,17 +10,14 @@ use config::Settings;
 use cursor::Head;
 use cursor::Range;
 use several_keys::Piece;
-ghost use mathlib.Core.Path.{_≡_};
-ghost use Prim.Native.Nat.{ℕ, _+_, _^_, _≤_};
+ghost use Prim.Native.Nat.{_+_, _≤_};
 ghost use lib.ListN.{length};
 ghost use Rattle.config.specs.Limits.{maxBytes};
 ghost use Rattle.cursor.specs.At.{RangeIn, ArgsHere};
 ghost use Rattle.cmd.specs.Laws.{Wrote};
-ghost use Rattle.book.specs.Book.{Row};
 ghost use Rattle.ask.specs.Asked.{SeveralIn};
-ghost use Rattle.sharded_lru.specs.Lent.{Lent, Arena};
-ghost use Rattle.several_keys.specs.Pieces.{pieces, placesNow, Inside, Fits, Puts};
-ghost use Rattle.several_keys.specs.declared.Piece.the-variants.{Node};
+ghost use Rattle.sharded_lru.specs.Lent.{Arena};
+ghost use Rattle.several_keys.specs.Pieces.{Inside, Fits, Puts};
 ghost use Rattle.plan_nodes.specs.Nodes.{nodesFor, singleNode, counted, severalNodes};
 
 // The number of places, in a node of this kind, and the places.
@@ -114,77 +111,6 @@ pub fn write_nodes(
                 CacheableCommand::Multiple(v, _, expiry) => {
                     write_several(dst, to, expiry, bytes, v, arena, g, clock, epoch)
                 }
-            },
-        },
-    }
-}
-
-// How long one missing key's node is.
-fn single_len(bytes: &[u8], head: Head, key: Range) -> usize
-    requires { ⌜ ArgsHere (now bytes) (head .args) × RangeIn (now bytes) key × (length (now bytes) ≤ maxBytes) ⌝ }
-    ensures { λ r. ⌜ ((x : ℕ) → r ≡ length (singleNode (now (bytes .entry)) head key x)) × (r ≤ 2 ^ 58) ⌝ }
-{
-    let text = cursor::bytes_in(bytes, key);
-    let args = head.args;
-    plan_write::missing_len(text, bytes, CommandKey::Joined(args))
-}
-
-// How long several keys are in the plan: `heads` bytes, and their places.
-fn several_len(
-    heads: usize,
-    bytes: &[u8],
-    v: Several,
-    arena: &[u8],
-    g: Settings,
-    clock: u64,
-    epoch: u64,
-) -> usize
-    requires { ⌜ SeveralIn (now bytes) v × (length (now bytes) ≤ maxBytes) × Arena g (now arena) × (heads ≤ 40) ⌝ }
-    ensures { λ r. ⌜ ((rows : ℕ → Row) → Lent g (now (arena .entry)) rows → (x : ℕ) → r ≡ heads + length (pieces (Node x) (placesNow g rows clock epoch (now (bytes .entry)) v))) × (r ≤ 2 ^ 58) ⌝ }
-{
-    heads + several_keys::places_len(Piece::Node(0), bytes, v, arena, g, clock, epoch)
-}
-
-// How long a command's nodes are.
-pub fn plan_len(
-    bytes: &[u8],
-    head: Head,
-    r: CachingResult,
-    arena: &[u8],
-    g: Settings,
-    clock: u64,
-    epoch: u64,
-) -> usize
-    requires { ⌜ ArgsHere (now bytes) (head .args) × (length (now bytes) ≤ maxBytes) × Arena g (now arena) × Inside g (now arena) clock epoch (now bytes) head r ⌝ }
-    ensures { λ n. ⌜ ((rows : ℕ → Row) → Lent g (now (arena .entry)) rows → n ≡ length (nodesFor g rows clock epoch (now (bytes .entry)) (now (arena .entry)) head r)) × (n ≤ 2 ^ 58) ⌝ }
-{
-    match r {
-        CachingResult::Ignored => plan_write::NODE_HEAD,
-        CachingResult::Item(i) => match i {
-            PrepCacheItem::NotCacheable => plan_write::NODE_HEAD,
-            PrepCacheItem::Cached(b) => match b {
-                Served::Value(at) => plan_write::NODE_HEAD + (at.end - at.start),
-                Served::Values(v) => several_len(
-                    plan_write::NODE_HEAD,
-                    bytes,
-                    v,
-                    arena,
-                    g,
-                    clock,
-                    epoch,
-                ),
-            },
-            PrepCacheItem::NotCached(cc) => match cc {
-                CacheableCommand::Single(key, _) => single_len(bytes, head, key),
-                CacheableCommand::Multiple(v, _, _) => several_len(
-                    2 * plan_write::NODE_HEAD,
-                    bytes,
-                    v,
-                    arena,
-                    g,
-                    clock,
-                    epoch,
-                ),
             },
         },
     }

@@ -75,7 +75,7 @@ module _ (p : Setup) (rows : ℕ → Row) (bytes : Bytes) (h : Held) where
   unfolding imaged
   bad-bytes e = rw e
 
-  pub good-bytes : isValue bytes ≡ true → imaged p (some rows) bytes h ≡ pushedOn p rows bytes h
+  pub good-bytes : isValue bytes ≡ true → imaged p (some rows) bytes h ≡ pushedOn p rows (decode bytes) h
   unfolding imaged
   good-bytes e = rw e
 
@@ -94,7 +94,7 @@ push-refused d n f s c next e =
     rw e (record { answer = refused-is (refusedAs n (holding s (countsOf c) next)) n f refl; cause = refl; arena = refl; counts = refl })
 
 pub push-left : (g : Settings) (rows : ℕ → Row) (bytes s u : Bytes) (lent : Counts) (next : ℕ) (sum : Statistics) (d : Return)
-    → d ≡ pushedOn (setupNow g) rows bytes (holding s lent next) → length u ≡ length s
+    → d ≡ pushedOn (setupNow g) rows (decode bytes) (holding s lent next) → length u ≡ length s
     → Kept g u sum (afterCall (setupNow g) (pushed (decode bytes)) (bookOf rows (holding s lent next)))
     → InvalidationLeft d u (record { answer = Done; counts = sum })
 unfolding pushedOn lend

@@ -11,6 +11,7 @@ use Rattle.config.specs.declared.CheckedConfig.{CheckedConfig}
 use Rattle.config.specs.declared.CheckedConfig.the-variants.{Fine, Refused as BadConfig}
 use Rattle.resp3.specs.Ends.{isValue}
 use Rattle.resp3.specs.Decode.{decode}
+use Rattle.resp3.specs.Value.{Value}
 use Rattle.book.specs.Book.{Setup, Row}
 use Rattle.book.specs.Calls.{Call, refused, afterCall}
 use Rattle.arena.specs.Decode as arena
@@ -24,14 +25,13 @@ unfoldable pub callFor : Bytes → Call
 callFor bytes = cond (isValue bytes) (pushed (decode bytes)) refused
 
 -- a push that no cause refuses, on the rows that the arena encodes: its invalidations (rule B14)
-unfoldable pub pushedOn : Setup → (ℕ → Row) → Bytes → Held → Return
-pushedOn p rows bytes h =
-    record { cause = noCause; value = none; held = lend p (length (h .arena)) (afterCall p (pushed (decode bytes)) (bookOf rows h)) }
+unfoldable pub pushedOn : Setup → (ℕ → Row) → Value → Held → Return
+pushedOn p rows v h = record { cause = noCause; value = none; held = lend p (length (h .arena)) (afterCall p (pushed v) (bookOf rows h)) }
 
 -- the causes, in the order of rule C12: 1, 9, 6
 unfoldable pub imaged : Setup → Option (ℕ → Row) → Bytes → Held → Return
 imaged p none bytes h = refusedAs badArena h
-imaged p (some rows) bytes h = cond (isValue bytes) (pushedOn p rows bytes h) (refusedAs badReply h)
+imaged p (some rows) bytes h = cond (isValue bytes) (pushedOn p rows (decode bytes) h) (refusedAs badReply h)
 
 unfoldable pub configured : CheckedConfig → Bytes → Held → Return
 configured BadConfig bytes h = refusedAs badConfig h

@@ -1,13 +1,13 @@
 -- One pure law for each turn of a loop that moves a range, and for each function that calls such ones. Assumes nothing.
 use mathlib.Core.Path.{_≡_, refl, sym}
 use mathlib.Core.List.{[], _∷_, _++_, append-assoc, append-nil, reverse-append, reverse-reverse}
-use Prim.Native.Nat.{ℕ, _+_, _-_, _≤_, _<_}
+use Prim.Native.Nat.{ℕ, _+_, _-_, _≤_, _<_, zero-le}
 use native.Mathlib.Omega.{arith}
 use lib.ListN.{length, getD, take, drop, set, replicate, length-append, length-reverse}
 use lib.Seq.{take-at, drop-at, length-take-le}
 use Rattle.bytes.specs.Bytes.{rev, slice}
 use Rattle.buffer.specs.Same.{Bytes}
-use Rattle.buffer.specs.Part.{part, put, length-part, length-put, put-put, around-part, drop-part}
+use Rattle.buffer.specs.Part.{part, put, length-part, length-put, part-put, put-put, around-part, drop-part}
 use Rattle.buffer.specs.Step.{part-suc, part-cons, put-nil, set-put, put-next, put-front, getD-put-before, getD-put-after}
 use Rattle.buffer.specs.Zero.{zeroed}
 use Rattle.buffer.specs.Move.{moved, resized, rotated, rotated-is}
@@ -83,6 +83,19 @@ up-turn s from to n j a h l =
       put-front s (x ∷ []) p (to + j) (to + j + 1) refl (omega arith),
       part-cons s (from + j) m 0 (omega arith),
     )
+
+-- a range kept elsewhere, the one before it moved up by its length, and what was kept put in front
+pub carry-law : (s kept kept₁ s₁ s₂ : Bytes) (from mid end n : ℕ) → from ≤ mid → mid ≤ end → end ≤ length s → n ≡ end - mid
+    → kept₁ ≡ put kept 0 (part s mid (end - mid))
+    → s₁ ≡ moved s from (from + (end - mid)) (mid - from)
+    → s₂ ≡ put s₁ from (part kept₁ 0 n)
+    → s₂ ≡ rotated s from mid end
+unfolding rotated
+carry-law s kept kept₁ s₁ s₂ from mid end n a b h w e₁ e₂ e₃ =
+    let Y : Bytes = part s mid (end - mid) in
+    let l : length Y ≡ end - mid = length-part s mid (end - mid) (omega arith) in
+    let k : part (put kept 0 Y) 0 (length Y) ≡ Y = part-put kept Y 0 zero-le in
+    cc (put-front s Y (part s from (mid - from)) from (from + (end - mid)) (omega arith) (omega arith))
 
 -- the tail moved, and what is freed zeroed
 pub resize-law : (s : Bytes) (from to end n : ℕ) → from ≤ to → to ≤ end → end ≤ length s → from + n + (end - to) ≤ length s

@@ -104,9 +104,9 @@ fn smaller(p: usize, q: usize) -> usize
     if p < q { p } else { q }
 }
 
-// Brings the bytes from `mid` up to `end` before those from `from` up to `mid`. While both ranges are long, the shorter one is exchanged
-// with the far end of the other, where it stays, and what is left is rotated.
-pub fn rotate(s: &mut [u8], from: usize, mid: usize, end: usize)
+// What `rotate` does, by exchanges: while both ranges are long, the shorter one is exchanged with the far end of the other, where it stays, and what
+// is left is rotated. It needs no memory of its own.
+fn rotate_long(s: &mut [u8], from: usize, mid: usize, end: usize)
     requires { ⌜ (from ≤ mid) × (mid ≤ end) × (end ≤ length (now s)) ⌝ }
     ensures { λ _. ⌜ now (s .exit) ≡ rotated (now (s .entry)) from mid end ⌝ }
 {
@@ -124,4 +124,31 @@ pub fn rotate(s: &mut [u8], from: usize, mid: usize, end: usize)
         f += n;
     }
     turn(s, f, mid, e);
+}
+
+// What `rotate` does where the second range fits into `kept`: it waits there while the first one moves up, so that each byte moves once.
+fn carry(s: &mut [u8], from: usize, mid: usize, end: usize, kept: &mut [u8])
+    requires { ⌜ (from ≤ mid) × (mid ≤ end) × (end ≤ length (now s)) × (end - mid ≤ length (now kept)) ⌝ }
+    ensures { λ _. ⌜ now (s .exit) ≡ rotated (now (s .entry)) from mid end ⌝ }
+{
+    let n = end - mid;
+    buffer::copy_to(kept, 0, &s[mid..end]);
+    move_up(s, from, from + n, mid - from);
+    buffer::copy_to(s, from, &kept[0..n]);
+}
+
+// Brings the bytes from `mid` up to `end` before those from `from` up to `mid`.
+pub fn rotate(s: &mut [u8], from: usize, mid: usize, end: usize)
+    requires { ⌜ (from ≤ mid) × (mid ≤ end) × (end ≤ length (now s)) ⌝ }
+    ensures { λ _. ⌜ now (s .exit) ≡ rotated (now (s .entry)) from mid end ⌝ }
+{
+    if mid == from {
+        return;
+    }
+    if 1024 < end - mid {
+        rotate_long(s, from, mid, end);
+        return;
+    }
+    let mut kept = [0u8; 1024];
+    carry(s, from, mid, end, &mut kept);
 }

@@ -2,7 +2,10 @@
 // specs/Value.antt says what a value is and how it is written; specs/Law.antt that this reader and that writing agree.
 use decimal::Num;
 ghost use mathlib.Core.Path.{_≡_};
-ghost use lib.ListN.{getD};
+ghost use mathlib.Core.Bool.{true};
+ghost use Prim.Native.Nat.{_-_, _≤_};
+ghost use lib.ListN.{length, getD};
+ghost use Rattle.buffer.specs.Part.{part};
 ghost use Rattle.resp3.specs.Kinds.{kindOf, shapeOf};
 ghost use Rattle.resp3.specs.Value.{plainB};
 ghost use Rattle.resp3.specs.Ends.{lengthAt, crlfEnd, lineEnd, blobEnd, verbatimEnd, numberEnd, booleanEnd, aloneOf, headAt, valueEnd, isValue};
@@ -293,4 +296,40 @@ pub fn is_value(s: &[u8]) -> bool
         End::At(e) => e == s.len(),
         End::Bad => false,
     }
+}
+
+// Whether the bytes of s from `from` up to `to` are a blob string, and so a value: most values in an arena are. It reads them where they stand.
+fn blob_in(s: &[u8], from: usize, to: usize) -> bool
+    requires { ⌜ (from ≤ to) × (to ≤ length (now s)) ⌝ }
+    ensures { λ r. ⌜ (r ≡ true → isValue (part (now (s .entry)) from (to - from)) ≡ true) ⌝ }
+{
+    let size = to - from;
+    if size < 6 {
+        return false;
+    }
+    if size > config::MAX_BYTES {
+        return false;
+    }
+    if s[from] != b'$' {
+        return false;
+    }
+    let Num::Val(n, e) = decimal::read_num(s, from + 1, size as u64) else {
+        return false;
+    };
+    let end = e + n as usize;
+    if end + 2 != to {
+        return false;
+    }
+    decimal::crlf_at(s, end)
+}
+
+// The same test of the bytes of s from `from` up to `to`. A blob string is taken at once; a slice of their own is made only for other bytes.
+pub fn value_in(s: &[u8], from: usize, to: usize) -> bool
+    requires { ⌜ (from ≤ to) × (to ≤ length (now s)) ⌝ }
+    ensures { λ r. ⌜ r ≡ isValue (part (now (s .entry)) from (to - from)) ⌝ }
+{
+    if blob_in(s, from, to) {
+        return true;
+    }
+    is_value(&s[from..to])
 }

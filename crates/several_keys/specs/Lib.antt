@@ -1,3 +1,4 @@
 pub mod Pieces
 pub mod Each
 pub mod Steps
+pub mod Measure

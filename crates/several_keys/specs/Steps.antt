@@ -29,12 +29,12 @@ module _ (g : Settings) (rows : ℕ → Row) (t e : ℕ) (s : Bytes) (v : Severa
   placesFrom k n = placesOn (setupNow g) rows t e (partKeys (severalName (v .json)) (pathIn s v) (take n (simplesOf s k)))
 
   -- none are left
-  places-none : (k : Args) (n : ℕ) → n ≡ 0 → placesFrom k n ≡ []
+  pub places-none : (k : Args) (n : ℕ) → n ≡ 0 → placesFrom k n ≡ []
   unfolding placesOn partKeys
   places-none k n q = rw q
 
   -- the first, and the others
-  places-more : (k : Args) (r : KeyAt) (n m : ℕ) → n ≡ m + 1 → KeyStep s k r → placesFrom k n ≡ placeAt g rows t e s v (r .key) ∷ placesFrom (r .rest) m
+  pub places-more : (k : Args) (r : KeyAt) (n m : ℕ) → n ≡ m + 1 → KeyStep s k r → placesFrom k n ≡ placeAt g rows t e s v (r .key) ∷ placesFrom (r .rest) m
   unfolding placesOn partKeys
   places-more k r n m q w = let z : n ≡ suc m = q ∙ add-one m in rw (z, w .is)
 

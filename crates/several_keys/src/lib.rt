@@ -17,6 +17,7 @@ ghost use Rattle.planning.specs.Outcome.{filled, waiting};
 ghost use Rattle.ask.specs.Asked.{SeveralIn};
 ghost use Rattle.sharded_lru.specs.Lent.{Lent, Arena};
 ghost use Rattle.several_keys.specs.Pieces.{pieceOf, pieces, wantAt, placeAt, placesNow, Fits, Puts};
+ghost use Rattle.several_keys.specs.Measure.{Measures, More, Grows, Bounded};
 
 // What is written of a place: its node, where it waits with this client expiry; its key as a blob, if it waits; `PTTL` and its key, if it waits.
 pub enum Piece {
@@ -111,36 +112,15 @@ pub fn write_places(
     next
 }
 
-// How long a filled place is, by its value's length.
-fn filled_len(what: Piece, n: usize) -> usize
-    requires { ⌜ n ≤ maxArena ⌝ }
-    ensures { λ r. ⌜ ((b : Bytes) → length b ≡ n → r ≡ length (pieceOf what (filled b))) × (r ≤ 2 ^ 32) ⌝ }
-{
-    match what {
-        Piece::Node(_) => plan_write::NODE_HEAD + n,
-        Piece::Key => 0,
-        Piece::Pttl => 0,
-    }
+// What several keys take: how many of them wait, the bytes of their places' nodes, the bytes of the keys that wait as blobs.
+pub struct Measured {
+    pub missing: usize,
+    pub nodes: usize,
+    pub keys: usize,
 }
 
-// How long a waiting place is.
-fn waiting_len(what: Piece, bytes: &[u8], v: Several, key: Range) -> usize
-    requires { ⌜ SeveralIn (now bytes) v × RangeIn (now bytes) key × (length (now bytes) ≤ maxBytes) ⌝ }
-    ensures { λ r. ⌜ (r ≡ length (pieceOf what (waiting (wantAt (now (bytes .entry)) v key)))) × (r ≤ 2 ^ 32) ⌝ }
-{
-    let path = v.path;
-    let command = CommandKey::Named(v.json, key, path);
-    let text = cursor::bytes_in(bytes, key);
-    match what {
-        Piece::Node(_) => plan_write::missing_len(text, bytes, command),
-        Piece::Key => cmd::bulklen(text.len()),
-        Piece::Pttl => 14 + cmd::bulklen(text.len()),
-    }
-}
-
-// How long one place is.
-fn place_len(
-    what: Piece,
+// With one key more, which is peeked.
+fn measure_key(
     bytes: &[u8],
     v: Several,
     key: Range,
@@ -148,38 +128,55 @@ fn place_len(
     g: Settings,
     clock: u64,
     epoch: u64,
-) -> usize
-    requires { ⌜ SeveralIn (now bytes) v × RangeIn (now bytes) key × (length (now bytes) ≤ maxBytes) × Arena g (now arena) ⌝ }
-    ensures { λ r. ⌜ ((rows : ℕ → Row) → Lent g (now (arena .entry)) rows → r ≡ length (pieceOf what (placeAt g rows clock epoch (now (bytes .entry)) v key))) × (r ≤ 2 ^ 32) ⌝ }
+    m: Measured,
+) -> Measured
+    requires { ⌜ SeveralIn (now bytes) v × RangeIn (now bytes) key × (length (now bytes) ≤ maxBytes) × Arena g (now arena) × Bounded maxBytes m ⌝ }
+    ensures { λ r. ⌜ ((rows : ℕ → Row) → Lent g (now (arena .entry)) rows → More m (placeAt g rows clock epoch (now (bytes .entry)) v key) r) × Grows m r ⌝ }
 {
+    let path = v.path;
+    let command = CommandKey::Named(v.json, key, path);
     match cached_cmd::peek_key(bytes, v, key, arena, g, clock, epoch) {
-        Looked::Hit { from, to: end } => filled_len(what, end - from),
-        Looked::Miss(_) => waiting_len(what, bytes, v, key),
+        Looked::Hit { from, to } => Measured {
+            missing: m.missing,
+            nodes: m.nodes + (plan_write::NODE_HEAD + (to - from)),
+            keys: m.keys,
+        },
+        Looked::Miss(_) => {
+            let text = cursor::bytes_in(bytes, key);
+            Measured {
+                missing: m.missing + 1,
+                nodes: m.nodes + plan_write::missing_len(text, bytes, command),
+                keys: m.keys + cmd::bulklen(text.len()),
+            }
+        }
     }
 }
 
-// How long all places are.
-pub fn places_len(
-    what: Piece,
+// What all of them take: each is peeked once.
+pub fn measure(
     bytes: &[u8],
     v: Several,
     arena: &[u8],
     g: Settings,
     clock: u64,
     epoch: u64,
-) -> usize
+) -> Measured
     requires { ⌜ SeveralIn (now bytes) v × (length (now bytes) ≤ maxBytes) × Arena g (now arena) ⌝ }
-    ensures { λ r. ⌜ ((rows : ℕ → Row) → Lent g (now (arena .entry)) rows → r ≡ length (pieces what (placesNow g rows clock epoch (now (bytes .entry)) v))) × (r ≤ v .keys * 2 ^ 32) ⌝ }
+    ensures { λ r. ⌜ ((rows : ℕ → Row) → Lent g (now (arena .entry)) rows → Measures (placesNow g rows clock epoch (now (bytes .entry)) v) r) × Bounded (v .keys) r ⌝ }
 {
     let mut k = v.args;
     let mut left = v.keys;
-    let mut total = 0;
+    let mut m = Measured {
+        missing: 0,
+        nodes: 0,
+        keys: 0,
+    };
     while left > 0 {
         let here = ask::next_key(bytes, k);
         let key = here.key;
-        total += place_len(what, bytes, v, key, arena, g, clock, epoch);
+        m = measure_key(bytes, v, key, arena, g, clock, epoch, m);
         k = here.rest;
         left -= 1;
     }
-    total
+    m
 }

@@ -4,7 +4,9 @@
 // of the row that the bytes hold, or of the item that stands at the place given.
 ghost use mathlib.Core.Path.{_≡_};
 ghost use mathlib.Core.List.{[], _∷_, _++_};
+ghost use mathlib.Core.Bool.{true, false};
 ghost use lib.ListN.{length};
+ghost use Rattle.buffer.specs.Field.{read32};
 ghost use Rattle.buffer.specs.Same.{same};
 ghost use Rattle.book.specs.Book.{Item, Row, find, without, entriesOf, rowEntries};
 ghost use Rattle.arena.specs.Layout.{encShard};
@@ -52,12 +54,28 @@ pub fn expiry_of(s: &[u8], at: usize) -> u64
     buffer::read_u64(s, at + 16)
 }
 
+// Whether the last eight bytes of the item's key, which is as long as this one, are others: keys that begin alike mostly differ there, so that few are
+// compared in full. False where they have no eight bytes.
+fn other_tail(s: &[u8], at: usize, key: &[u8]) -> bool
+    requires { ⌜ ItemAt (now s) at × (read32 (now s) at ≡ length (now key)) ⌝ }
+    ensures { λ r. ⌜ ((front back : Row) (it : Item) → Stands (now (s .entry)) at front back it → r ≡ true → same (now (key .entry)) (it .key) ≡ false) ⌝ }
+{
+    let n = key.len();
+    if n < 8 {
+        return false;
+    }
+    buffer::read_u64(s, at + 24 + n) != buffer::read_u64(key, n - 8)
+}
+
 // Whether the item at `at` has this key. The lengths are compared first.
 fn has_key(s: &[u8], at: usize, key: &[u8]) -> bool
     requires { ⌜ ItemAt (now s) at ⌝ }
     ensures { λ r. ⌜ ((front back : Row) (it : Item) → Stands (now (s .entry)) at front back it → r ≡ same (now (key .entry)) (it .key)) ⌝ }
 {
     if buffer::read_u32(s, at) as usize != key.len() {
+        return false;
+    }
+    if other_tail(s, at, key) {
         return false;
     }
     buffer::same_at(s, at + 32, key)

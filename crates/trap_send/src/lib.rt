@@ -46,8 +46,8 @@ fn command_len(bytes: &[u8], head: Head, arena: &[u8], g: Settings, clock: u64, 
     requires { ⌜ One g clock (now bytes) head × (length (now bytes) ≤ maxBytes) × Arena g (now arena) ⌝ }
     ensures { λ r. ⌜ ((rows : ℕ → Row) → Lent g (now (arena .entry)) rows → r ≡ length (sentFor (setupNow g) rows clock epoch g (commandOf (now (bytes .entry)) head))) ⌝ }
 {
-    let result = cached_cmd::get_cached_cmd(bytes, head, arena, g, clock, epoch);
-    pipeline::send_len(bytes, head, result, arena, g, clock, epoch)
+    let size = dry_pass::size_of(bytes, head, arena, g, clock, epoch);
+    size.send
 }
 
 // What is sent for a command.

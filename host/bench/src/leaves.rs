@@ -1,7 +1,16 @@
 //! The leaves of crate `bench_exports`, behind safe functions. A slice is lent as pointer and length; what holds for every call
 //! here is that both come from a Rust slice that lives through the call, and what is lent to be changed is lent by `&mut`.
 
+use crate::measure::Table;
 use calls::{Command, Record, record};
+
+/// The groups that measure leaves.
+pub fn measure(table: &mut Table) {
+    crate::bytes::hash(table);
+    crate::bytes::ranges(table);
+    crate::resp::check(table);
+    crate::packing::pack(table);
+}
 
 unsafe extern "C" {
     fn bench_sip_hash_13(key: *const u8, key_length: usize) -> u64;

@@ -1,9 +1,10 @@
 //! The connection that is read through the cache.
 
+use crate::options::By;
 use crate::traps::{TRAPS, key, trap_of};
 use redis_cache::{
-    Cache, CacheConfig, CacheMode, CacheStatistics, Clock, CommandCacheConfig, Event, OwnedValue,
-    Stream, Value, cmd,
+    Cache, CacheConfig, CacheMode, CacheStatistics, Clock, CommandCacheConfig, Event, OwnedAnswer,
+    OwnedValue, Pipeline, Stream, Value, pipe,
 };
 use std::io::{ErrorKind, Read, Write};
 use std::net::TcpStream;
@@ -35,11 +36,12 @@ pub struct Cached {
     stream: Stream,
     clock: Clock,
     mode: CacheMode,
+    by: By,
     heard: Vec<Heard>,
 }
 
 impl Cached {
-    pub fn connect(address: &str, mode: CacheMode) -> Result<Self, String> {
+    pub fn connect(address: &str, mode: CacheMode, by: By) -> Result<Self, String> {
         let cache = Cache::new(CacheConfig::new().set_mode(mode)).map_err(|e| e.to_string())?;
         Ok(Cached {
             address: address.into(),
@@ -47,6 +49,7 @@ impl Cached {
             stream: Stream::new(cache),
             clock: Clock::new(),
             mode,
+            by,
             heard: Vec::new(),
         })
     }
@@ -55,26 +58,32 @@ impl Cached {
         self.stream.cache().statistics()
     }
 
-    /// A trap's catch, and whether the server was asked for it.
-    pub fn read(&mut self, trap: usize) -> Result<(Option<u32>, Source), String> {
-        let mut get = cmd("GET");
-        get.arg(key(trap));
-        if self.mode == CacheMode::OptIn {
-            get.set_cache_config(CommandCacheConfig::new());
+    /// The traps that are asked for together.
+    pub fn together(&self) -> Vec<Vec<usize>> {
+        match self.by {
+            By::Get => (0..TRAPS.len()).map(|trap| vec![trap]).collect(),
+            By::Mget | By::Transaction => vec![(0..TRAPS.len()).collect()],
         }
+    }
+
+    /// The catches of these traps, and whether the server was asked for each.
+    pub fn read(&mut self, traps: &[usize]) -> Result<Vec<(Option<u32>, Source)>, String> {
+        let call = self.call(traps);
         let began = Instant::now();
         'ask: loop {
             self.write()?;
             let now = self.clock.now();
-            let asked = self.stream.send(now, &get).map_err(|e| e.to_string())?;
-            let source = match self.stream.to_send() {
-                [] => Source::Cache,
-                _ => Source::Server,
+            let asked = self.stream.send(now, &call).map_err(|e| e.to_string())?;
+            let sends = String::from_utf8_lossy(self.stream.to_send()).into_owned();
+            let source = |&trap: &usize| match sends.contains(&key(trap)) {
+                true => Source::Server,
+                false => Source::Cache,
             };
             loop {
                 match self.stream.next_event() {
                     Some(Event::Answer(ticket, answer)) if ticket == asked => {
-                        return Ok((answer.query().map_err(|e| e.to_string())?, source));
+                        let catches = self.catches(&answer)?;
+                        return Ok(catches.into_iter().zip(traps.iter().map(source)).collect());
                     }
                     Some(Event::Dropped(ticket)) if ticket == asked => continue 'ask,
                     Some(event) => self.event(event)?,
@@ -85,6 +94,39 @@ impl Cached {
                 }
             }
         }
+    }
+
+    /// What asks for these traps.
+    fn call(&self, traps: &[usize]) -> Pipeline {
+        let mut call = pipe();
+        let keys: Vec<String> = traps.iter().map(|&trap| key(trap)).collect();
+        if self.by == By::Mget {
+            self.opted(call.cmd("MGET").arg(keys));
+            return call;
+        }
+        if self.by == By::Transaction {
+            call.atomic();
+        }
+        for key in keys {
+            self.opted(call.cmd("GET").arg(key));
+        }
+        call
+    }
+
+    /// In opt-in mode, what was asked last is to be kept.
+    fn opted(&self, call: &mut Pipeline) {
+        if self.mode == CacheMode::OptIn {
+            call.set_cache_config(CommandCacheConfig::new());
+        }
+    }
+
+    /// What was answered, one for each trap that was asked for.
+    fn catches(&self, answer: &OwnedAnswer) -> Result<Vec<Option<u32>>, String> {
+        let catches = match self.by {
+            By::Get | By::Transaction => answer.query(),
+            By::Mget => answer.query().map(|(catches,)| catches),
+        };
+        catches.map_err(|e| e.to_string())
     }
 
     /// Takes in what arrives in this time.

@@ -1,25 +1,48 @@
 //! A connection without a cache: for the traps that post, and for the direct reads.
 
-use std::io::{self, BufRead, BufReader, Read, Write};
+use std::io::{self, BufRead, BufReader, ErrorKind, Read, Write};
 use std::net::TcpStream;
-use std::time::Duration;
+use std::thread::sleep;
+use std::time::{Duration, Instant};
 
-pub struct Direct(BufReader<TcpStream>);
+/// How long the server may be away.
+const PATIENCE: Duration = Duration::from_secs(60);
+
+pub struct Direct {
+    address: String,
+    socket: BufReader<TcpStream>,
+}
 
 impl Direct {
     pub fn connect(address: &str) -> io::Result<Self> {
-        let socket = TcpStream::connect(address)?;
-        socket.set_nodelay(true)?;
-        socket.set_read_timeout(Some(Duration::from_secs(60)))?;
-        Ok(Direct(BufReader::new(socket)))
+        Ok(Direct {
+            address: address.into(),
+            socket: open(address)?,
+        })
+    }
+
+    /// The reply to a command that may be done twice. Where the server went away, it is asked again once it is back.
+    pub fn ask(&mut self, command: &str) -> io::Result<Option<String>> {
+        let began = Instant::now();
+        loop {
+            match self.ask_once(command) {
+                Err(e) if e.kind() != ErrorKind::Other && began.elapsed() < PATIENCE => {
+                    sleep(Duration::from_millis(50));
+                    if let Ok(socket) = open(&self.address) {
+                        self.socket = socket;
+                    }
+                }
+                answered => return answered,
+            }
+        }
     }
 
     /// Sends a command whose words hold no spaces, and reads its reply: a number or a string as text, none for null.
-    pub fn ask(&mut self, command: &str) -> io::Result<Option<String>> {
+    fn ask_once(&mut self, command: &str) -> io::Result<Option<String>> {
         let line = format!("{command}\r\n");
-        self.0.get_mut().write_all(line.as_bytes())?;
+        self.socket.get_mut().write_all(line.as_bytes())?;
         let mut head = String::new();
-        self.0.read_line(&mut head)?;
+        self.socket.read_line(&mut head)?;
         let rest = head.get(1..).unwrap_or("").trim_end();
         match head.as_bytes().first() {
             Some(b'+' | b':') => Ok(Some(rest.into())),
@@ -27,15 +50,22 @@ impl Direct {
             Some(b'$') => {
                 let length: usize = rest.parse().map_err(io::Error::other)?;
                 let mut bytes = vec![0; length + 2];
-                self.0.read_exact(&mut bytes)?;
+                self.socket.read_exact(&mut bytes)?;
                 bytes.truncate(length);
                 String::from_utf8(bytes).map(Some).map_err(io::Error::other)
             }
-            None => Err(io::Error::other("the server hung up")),
+            None => Err(ErrorKind::UnexpectedEof.into()),
             _ => Err(io::Error::other(format!(
                 "'{command}' was answered by '{}'",
                 head.trim_end()
             ))),
         }
     }
+}
+
+fn open(address: &str) -> io::Result<BufReader<TcpStream>> {
+    let socket = TcpStream::connect(address)?;
+    socket.set_nodelay(true)?;
+    socket.set_read_timeout(Some(PATIENCE))?;
+    Ok(BufReader::new(socket))
 }

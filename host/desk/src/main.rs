@@ -3,6 +3,7 @@
 
 mod book;
 mod cached;
+mod chart;
 mod direct;
 mod options;
 mod page;
@@ -11,7 +12,7 @@ mod server;
 mod traps;
 
 use book::{Book, Reading};
-use cached::{Cached, Heard};
+use cached::{Cached, Heard, Source};
 use direct::Direct;
 use options::{Asked, Options};
 use redis_cache::CacheMode;
@@ -69,7 +70,7 @@ fn run(options: &Options) -> Result<bool, String> {
     let title = format!("Moth traps on the Redis server at {address}, tracking mode {mode_name}");
     let plain = options.plain || !std::io::stdout().is_terminal();
     let mut desk = Desk {
-        cached: Cached::connect(&address, mode)?,
+        cached: Cached::connect(&address, mode, options.by)?,
         direct,
         book: Book::new(),
         screen: Screen::new(plain, title.clone()),
@@ -158,9 +159,7 @@ impl Desk {
     fn watch(&mut self, time: Duration, posts: &Receiver<Post>) -> Result<(), String> {
         let pause = (time / 60).min(Duration::from_millis(500));
         while self.began.elapsed() < time {
-            for trap in 0..TRAPS.len() {
-                self.read(trap)?;
-            }
+            self.read_all()?;
             self.cached.listen(pause)?;
             self.note(posts);
             self.screen.draw(self.began.elapsed(), &self.book);
@@ -172,34 +171,51 @@ impl Desk {
     fn settle(&mut self, posts: &Receiver<Post>) -> Result<Vec<usize>, String> {
         let began = Instant::now();
         self.note(posts);
-        for trap in 0..TRAPS.len() {
-            self.read(trap)?;
-        }
+        self.read_all()?;
         loop {
             let behind = self.book.behind();
             if behind.is_empty() || began.elapsed() > PATIENCE {
                 return Ok(behind);
             }
             self.cached.listen(Duration::from_millis(20))?;
-            for trap in behind {
-                self.read(trap)?;
-            }
+            self.read(&behind)?;
         }
     }
 
-    fn read(&mut self, trap: usize) -> Result<(), String> {
-        let (catch, source) = self.cached.read(trap)?;
+    fn read_all(&mut self) -> Result<(), String> {
+        for traps in self.cached.together() {
+            self.read(&traps)?;
+        }
+        Ok(())
+    }
+
+    /// Reads these traps through the cache in one call, and each of them directly. What the cache served was served when the call was planned, so that it is
+    /// told before what the server said until the rest of the call was answered.
+    fn read(&mut self, traps: &[usize]) -> Result<(), String> {
+        let read = self.cached.read(traps)?;
+        let (served, fetched): (Vec<_>, Vec<_>) = traps
+            .iter()
+            .zip(read)
+            .partition(|(_, (_, source))| *source == Source::Cache);
+        self.tell(served)?;
         self.hear();
-        let reading = Reading {
-            direct: self.direct.catch(trap)?,
-            at: self.began.elapsed(),
-            trap,
-            catch,
-            source,
-            counts: self.cached.statistics(),
-        };
-        self.screen.reading(&reading);
-        self.book.read(reading);
+        self.tell(fetched)
+    }
+
+    fn tell(&mut self, read: Vec<(&usize, (Option<u32>, Source))>) -> Result<(), String> {
+        let counts = self.cached.statistics();
+        for (&trap, (catch, source)) in read {
+            let reading = Reading {
+                direct: self.direct.catch(trap)?,
+                at: self.began.elapsed(),
+                trap,
+                catch,
+                source,
+                counts,
+            };
+            self.screen.reading(&reading);
+            self.book.read(reading);
+        }
         Ok(())
     }
 

@@ -5,11 +5,23 @@ use std::time::Duration;
 
 pub const HELP: &str = include_str!("../help.txt");
 
+/// What the desk asks by.
+#[derive(Clone, Copy, Debug, PartialEq, Eq)]
+pub enum By {
+    /// A `GET` for each trap.
+    Get,
+    /// One `MGET` for all traps.
+    Mget,
+    /// The `GET`s of all traps in one transaction.
+    Transaction,
+}
+
 #[derive(Debug, PartialEq, Eq)]
 pub struct Options {
     pub address: Option<String>,
     pub time: Duration,
     pub opt_in: bool,
+    pub by: By,
     pub plain: bool,
     pub page: PathBuf,
 }
@@ -26,6 +38,7 @@ pub fn parse(mut args: impl Iterator<Item = String>) -> Result<Asked, String> {
         address: None,
         time: Duration::from_secs(12),
         opt_in: false,
+        by: By::Get,
         plain: false,
         page: PathBuf::from("target/desk.html"),
     };
@@ -39,12 +52,24 @@ pub fn parse(mut args: impl Iterator<Item = String>) -> Result<Asked, String> {
             "--seconds" => options.time = seconds(&value()?)?,
             "--page" => options.page = PathBuf::from(value()?),
             "--opt-in" => options.opt_in = true,
+            "--by" => options.by = by(&value()?)?,
             "--plain" => options.plain = true,
             "--help" | "-h" => return Ok(Asked::Help),
             other => return Err(format!("{other} is not known: see --help")),
         }
     }
     Ok(Asked::Run(options))
+}
+
+fn by(text: &str) -> Result<By, String> {
+    match text {
+        "get" => Ok(By::Get),
+        "mget" => Ok(By::Mget),
+        "transaction" => Ok(By::Transaction),
+        _ => Err(format!(
+            "--by takes get, mget or transaction, and not {text}"
+        )),
+    }
 }
 
 fn seconds(text: &str) -> Result<Duration, String> {
@@ -64,11 +89,13 @@ mod tests {
 
     #[test]
     fn options_are_read() {
-        let Ok(Asked::Run(options)) = asked("--seconds 3 --opt-in --plain --page a.html") else {
+        let Ok(Asked::Run(options)) = asked("--seconds 3 --opt-in --by mget --plain --page a.html")
+        else {
             panic!("these are right")
         };
         assert_eq!(options.time, Duration::from_secs(3));
         assert!(options.opt_in && options.plain && options.address.is_none());
+        assert_eq!(options.by, By::Mget);
         assert_eq!(asked("--help"), Ok(Asked::Help));
     }
 
@@ -77,6 +104,10 @@ mod tests {
         for (line, said) in [
             ("--seconds", "--seconds needs a value: see --help"),
             ("--seconds 0", "--seconds takes 1 to 3600, and not 0"),
+            (
+                "--by set",
+                "--by takes get, mget or transaction, and not set",
+            ),
             ("--fast", "--fast is not known: see --help"),
         ] {
             assert_eq!(asked(line), Err(said.to_string()));

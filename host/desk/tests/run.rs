@@ -1,91 +1,182 @@
-//! The program on a real server: after every invalidation the fresh catch is read, and the page is written. Where redis-server is
-//! not installed, the tests say so and are left out.
+//! The program on a real server, as a user runs it: after every invalidation the fresh catch is read, whatever the mode, what the desk asks by, and what
+//! happens to the server. The page is drawn by a browser where Debian's chromium is there. Where redis-server is not installed, the tests say so and
+//! are left out.
 
+#[path = "run/browser.rs"]
+mod browser;
+#[path = "run/server.rs"]
+mod server;
+
+use server::Server;
 use std::collections::HashMap;
+use std::io::{BufRead, BufReader};
 use std::path::PathBuf;
-use std::process::Command;
+use std::process::{Command, Stdio};
 
-/// A run of three seconds: its output and its page.
-fn run(name: &str, mode: &[&str]) -> Option<(String, String)> {
-    if Command::new("redis-server")
-        .arg("--version")
-        .output()
-        .is_err()
-    {
-        eprintln!("redis-server is not installed: {name} is left out");
-        return None;
-    }
+/// The traps of the program.
+const TRAPS: [&str; 6] = ["north-1", "north-2", "hedge", "pond", "south-1", "south-2"];
+
+/// A run of three seconds, in which something happens once sixty catches were read: its output and the path of its page.
+fn run(name: &str, arguments: &[&str], mut happens: impl FnMut()) -> (String, PathBuf) {
     let page = PathBuf::from(env!("CARGO_TARGET_TMPDIR")).join(format!("{name}.html"));
     let _ = std::fs::remove_file(&page);
-    let output = Command::new(env!("CARGO_BIN_EXE_desk"))
+    let mut desk = Command::new(env!("CARGO_BIN_EXE_desk"))
         .args(["--plain", "--seconds", "3", "--page"])
         .arg(&page)
-        .args(mode)
-        .output()
+        .args(arguments)
+        .stdout(Stdio::piped())
+        .spawn()
         .expect("it runs");
-    let (said, complained) = (
-        String::from_utf8(output.stdout).expect("text"),
-        String::from_utf8(output.stderr).expect("text"),
-    );
-    assert!(output.status.success(), "{complained}\n{said}");
-    let page = std::fs::read_to_string(&page).expect("the page is written");
-    Some((said, page))
+    let (mut said, mut read) = (String::new(), 0);
+    for line in BufReader::new(desk.stdout.take().expect("a pipe")).lines() {
+        let line = line.expect("text");
+        read += usize::from(line.contains(" read "));
+        if read == 60 {
+            read += 1;
+            happens();
+        }
+        said += &line;
+        said.push('\n');
+    }
+    let status = desk.wait().expect("it ends");
+    assert!(status.success(), "{status}\n{said}");
+    (said, page)
 }
 
-fn fresh_after_every_invalidation(name: &str, mode: &[&str]) {
-    let Some((said, page)) = run(name, mode) else {
-        return;
-    };
+/// What is told of a run.
+#[derive(Default)]
+struct Seen {
+    pushes: usize,
+    /// Pushes for all traps, one behind the other.
+    flushes: usize,
+    reconnected: usize,
+    from_cache: usize,
+    /// A trap's catch was read, and later the server had none.
+    expired: usize,
+}
+
+/// After every invalidation, and on every new connection, the server is asked; every trap's last reading agrees with the direct read.
+fn fresh(said: &str) -> Seen {
+    let mut seen = Seen::default();
     // For each trap: whether it was invalidated since it was last read, and whether the last reading agreed.
     let mut invalidated: HashMap<&str, bool> = HashMap::new();
     let mut agreed: HashMap<&str, bool> = HashMap::new();
-    let (mut pushes, mut from_cache) = (0, 0);
+    let mut caught: HashMap<&str, bool> = HashMap::new();
+    let mut in_a_row = 0;
     for line in said.lines() {
         let words: Vec<&str> = line.split_whitespace().collect();
         match words[..] {
             [_, "push", trap] => {
-                pushes += 1;
+                seen.pushes += 1;
+                in_a_row = if trap == TRAPS[in_a_row % TRAPS.len()] {
+                    in_a_row + 1
+                } else {
+                    0
+                };
+                seen.flushes += usize::from(in_a_row == TRAPS.len());
                 invalidated.insert(trap, true);
+                continue;
+            }
+            [_, "reconnected:", ..] => {
+                seen.reconnected += 1;
+                invalidated.extend(TRAPS.map(|trap| (trap, true)));
             }
             [_, "read", trap, catch, source, "direct", direct, ..] => {
                 if invalidated.insert(trap, false) == Some(true) {
                     assert_eq!(source, "server", "not read anew: {line}\n{said}");
                 }
-                from_cache += usize::from(source == "cache");
+                let had = caught.insert(trap, catch != "-") == Some(true);
+                seen.expired += usize::from(had && catch == "-" && direct == "-");
+                seen.from_cache += usize::from(source == "cache");
                 agreed.insert(trap, catch == direct);
             }
             _ => {}
         }
+        in_a_row = 0;
     }
-    assert!(pushes > 0, "no push came\n{said}");
-    assert!(from_cache > 0, "nothing was served\n{said}");
+    assert!(seen.pushes > 0, "no push came\n{said}");
+    assert!(seen.from_cache > 0, "nothing was served\n{said}");
     assert_eq!(agreed.len(), 6, "a trap was not read\n{said}");
     assert!(
         agreed.values().all(|&agreed| agreed),
         "a stale catch at the end\n{said}"
     );
     assert!(said.contains("every trap's last reading agrees"), "{said}");
+    seen
+}
 
-    assert!(page.starts_with("<!doctype html>") && page.ends_with("</html>\n"));
-    assert_eq!(
-        page.matches("class=\"catch\"").count(),
-        6,
-        "a line for each trap"
-    );
+/// A run with a server of its own: fresh, and with a page, whose path is told.
+fn on_its_own(name: &str, arguments: &[&str]) -> Option<PathBuf> {
+    if !server::installed(name) {
+        return None;
+    }
+    let (said, page) = run(name, arguments, || ());
+    // The trap with the weak battery: its catch is forgotten by the server, which nobody writes.
+    assert!(fresh(&said).expired > 0, "no catch expired\n{said}");
+    let text = std::fs::read_to_string(&page).expect("the page is written");
+    assert!(text.starts_with("<!doctype html>") && text.ends_with("</html>\n"));
     assert!(
-        !page.contains("<script") && !page.contains("http"),
+        !text.contains("<script") && !text.contains("http"),
         "nothing from elsewhere"
     );
+    Some(page)
 }
 
 #[test]
 fn mode_all() {
-    fresh_after_every_invalidation("mode-all", &[]);
+    if let Some(page) = on_its_own("mode-all", &[]) {
+        browser::draw(&page);
+    }
 }
 
 #[test]
 fn opt_in() {
-    fresh_after_every_invalidation("opt-in", &["--opt-in"]);
+    on_its_own("opt-in", &["--opt-in"]);
+}
+
+#[test]
+fn several_keys() {
+    on_its_own("several-keys", &["--by", "mget"]);
+}
+
+#[test]
+fn several_keys_opt_in() {
+    on_its_own("several-keys-opt-in", &["--by", "mget", "--opt-in"]);
+}
+
+#[test]
+fn transactions() {
+    on_its_own("transactions", &["--by", "transaction"]);
+}
+
+#[test]
+fn transactions_opt_in() {
+    on_its_own("transactions-opt-in", &["--by", "transaction", "--opt-in"]);
+}
+
+/// Everything on the server is gone at once: the desk is told, and reads what there is then.
+#[test]
+fn flushall() {
+    let Some(server) = Server::start("flushall") else {
+        return;
+    };
+    let address = server.address();
+    let (said, _) = run("flushall", &["--address", &address], || server.flush());
+    assert!(fresh(&said).flushes > 0, "the flush was not told\n{said}");
+}
+
+/// The server is stopped, and another one, which knows nothing, takes its place: a new epoch, in which nothing of before is served.
+#[test]
+fn restart() {
+    let Some(server) = Server::start("restart") else {
+        return;
+    };
+    let address = server.address();
+    let mut server = Some(server);
+    let (said, _) = run("restart", &["--address", &address], || {
+        server = server.take().map(Server::again);
+    });
+    assert!(fresh(&said).reconnected > 0, "no new connection\n{said}");
 }
 
 #[test]
@@ -96,4 +187,20 @@ fn wrong_arguments_are_refused() {
         .expect("it runs");
     assert_eq!(output.status.code(), Some(2));
     assert_eq!(output.stderr, b"--fast is not known: see --help\n");
+}
+
+/// Keys of others are left alone.
+#[test]
+fn a_server_with_such_keys_is_refused() {
+    let Some(server) = Server::start("others") else {
+        return;
+    };
+    server.ask("SET trap:pond:catch 7");
+    let output = Command::new(env!("CARGO_BIN_EXE_desk"))
+        .args(["--plain", "--address", &server.address()])
+        .output()
+        .expect("it runs");
+    assert_eq!(output.status.code(), Some(2));
+    assert!(String::from_utf8_lossy(&output.stderr).contains("trap:pond:catch"));
+    assert_eq!(server.ask("GET trap:pond:catch"), "$1");
 }

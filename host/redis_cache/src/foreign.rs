@@ -6,11 +6,10 @@
 
 mod pipeline;
 
-pub(crate) use pipeline::{Replies, plan, push, resolve};
+pub(crate) use pipeline::{Replies, plan, push, resolve, served};
 
 use crate::Cause;
-use crate::frame::End;
-use crate::lent::{Counts, Epochs, Looked, Now, Settings};
+use crate::lent::{Counts, Epochs, Looked, Now, Settings, ValueEnd};
 
 /// `redis_cache_bytes` of the header: a slice as the library hands one out.
 #[repr(C)]
@@ -36,7 +35,7 @@ struct NewEpoch {
 
 /// `redis_cache_value_end_return` of the header.
 #[repr(C)]
-struct ValueEnd {
+struct ValueEndReturn {
     verdict: u64,
     bytes: u64,
 }
@@ -103,7 +102,7 @@ unsafe extern "C" {
 
     fn redis_cache_new_epoch(next: u64) -> NewEpoch;
 
-    fn redis_cache_value_end(received: *const u8, received_length: usize) -> ValueEnd;
+    fn redis_cache_value_end(received: *const u8, received_length: usize) -> ValueEndReturn;
 
     fn redis_cache_counts(counts: *const Counts) -> Counts;
 }
@@ -229,13 +228,13 @@ pub(crate) fn new_epoch(next: u64) -> Epochs {
     }
 }
 
-pub(crate) fn value_end(received: &[u8]) -> End {
+pub(crate) fn value_end(received: &[u8]) -> ValueEnd {
     // SAFETY: the bytes are lent as above, and only read.
     let end = unsafe { redis_cache_value_end(received.as_ptr(), received.len()) };
     match end.verdict {
-        0 => End::Complete(end.bytes as usize),
-        1 => End::More,
-        _ => End::Wrong,
+        0 => ValueEnd::Complete(end.bytes as usize),
+        1 => ValueEnd::More(end.bytes as usize),
+        _ => ValueEnd::Wrong,
     }
 }
 

@@ -3,19 +3,33 @@
 use crate::foreign;
 
 /// What bytes begin with.
+///
+/// ```
+/// use redis_cache::lent::{ValueEnd, value_end};
+///
+/// assert_eq!(value_end(b"?"), ValueEnd::Wrong);
+/// ```
 #[derive(Clone, Copy, Debug, PartialEq, Eq)]
-pub(crate) enum End {
+pub enum ValueEnd {
     /// A value of so many bytes.
     Complete(usize),
-    /// A part of a value.
-    More,
+    /// A part of a value, which lacks so many bytes at least.
+    More(usize),
     /// No value of at most 16 MiB and 16 deep.
     Wrong,
 }
 
-/// The verdict on these bytes. It reads them from their start.
-pub(crate) fn value_end(bytes: &[u8]) -> End {
-    foreign::value_end(bytes)
+/// Where the first value ends in the bytes received so far. It reads them from their start and keeps nothing, so that a caller does well to wait for the
+/// bytes that are lacking before it asks again. More bytes change neither [`ValueEnd::Complete`] nor [`ValueEnd::Wrong`].
+///
+/// ```
+/// use redis_cache::lent::{ValueEnd, value_end};
+///
+/// assert_eq!(value_end(b"$2\r\n12\r\n+OK"), ValueEnd::Complete(8));
+/// assert_eq!(value_end(b"$2\r\n1"), ValueEnd::More(3));
+/// ```
+pub fn value_end(received: &[u8]) -> ValueEnd {
+    foreign::value_end(received)
 }
 
 #[cfg(test)]
@@ -29,11 +43,25 @@ mod tests {
     fn right_values() {
         for text in RIGHT {
             let bytes = text.as_bytes();
-            assert_eq!(value_end(bytes), End::Complete(bytes.len()), "{text:?}");
+            assert_eq!(
+                value_end(bytes),
+                ValueEnd::Complete(bytes.len()),
+                "{text:?}"
+            );
             let longer = [bytes, b"+"].concat();
-            assert_eq!(value_end(&longer), End::Complete(bytes.len()), "{text:?}");
+            assert_eq!(
+                value_end(&longer),
+                ValueEnd::Complete(bytes.len()),
+                "{text:?}"
+            );
             for end in 0..bytes.len() {
-                assert_eq!(value_end(&bytes[..end]), End::More, "{text:?}, {end}");
+                let ValueEnd::More(lacking) = value_end(&bytes[..end]) else {
+                    panic!("{text:?}, {end}")
+                };
+                assert!(
+                    (1..=bytes.len() - end).contains(&lacking),
+                    "{text:?}, {end}"
+                );
             }
         }
     }
@@ -41,9 +69,9 @@ mod tests {
     #[test]
     fn wrong_values_stay_wrong() {
         for text in WRONG {
-            assert_eq!(value_end(text.as_bytes()), End::Wrong, "{text:?}");
+            assert_eq!(value_end(text.as_bytes()), ValueEnd::Wrong, "{text:?}");
             let longer = format!("{text}:1\r\n");
-            assert_eq!(value_end(longer.as_bytes()), End::Wrong, "{text:?}");
+            assert_eq!(value_end(longer.as_bytes()), ValueEnd::Wrong, "{text:?}");
         }
     }
 
@@ -51,8 +79,8 @@ mod tests {
     fn depths() {
         for head in ["*1\r\n", "|0\r\n", "~1\r\n", ">1\r\n", "%1\r\n_\r\n"] {
             let deepest = nested(head, 15);
-            assert_eq!(value_end(&deepest), End::Complete(deepest.len()));
-            assert_eq!(value_end(&nested(head, 16)), End::Wrong, "{head:?}");
+            assert_eq!(value_end(&deepest), ValueEnd::Complete(deepest.len()));
+            assert_eq!(value_end(&nested(head, 16)), ValueEnd::Wrong, "{head:?}");
         }
     }
 
@@ -61,11 +89,11 @@ mod tests {
         let blob = |n: usize| [format!("${n}\r\n").as_bytes(), &vec![b'x'; n], b"\r\n"].concat();
         let head = blob(10_000_000).len() - 10_000_000;
         let longest = blob(MOST_BYTES - head);
-        assert_eq!(value_end(&longest), End::Complete(MOST_BYTES));
-        assert_eq!(value_end(&longest[..MOST_BYTES - 1]), End::More);
-        assert_eq!(value_end(&blob(MOST_BYTES - head + 1)), End::Wrong);
+        assert_eq!(value_end(&longest), ValueEnd::Complete(MOST_BYTES));
+        assert_eq!(value_end(&longest[..MOST_BYTES - 1]), ValueEnd::More(1));
+        assert_eq!(value_end(&blob(MOST_BYTES - head + 1)), ValueEnd::Wrong);
         let line = [b"+".as_slice(), &vec![b'x'; MOST_BYTES]].concat();
-        assert_eq!(value_end(&line[..MOST_BYTES - 2]), End::More);
-        assert_eq!(value_end(&line[..MOST_BYTES - 1]), End::Wrong);
+        assert_eq!(value_end(&line[..MOST_BYTES - 2]), ValueEnd::More(2));
+        assert_eq!(value_end(&line[..MOST_BYTES - 1]), ValueEnd::Wrong);
     }
 }

@@ -26,7 +26,8 @@
 
 mod pipeline;
 
-pub use pipeline::{PlanRefusal, Planned, Resolved, Responses};
+pub use crate::frame::{ValueEnd, value_end};
+pub use pipeline::{PlanRefusal, Planned, Resolved, Responses, served};
 
 use crate::{Cause, foreign};
 

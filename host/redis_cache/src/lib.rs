@@ -36,6 +36,8 @@
 //!
 //! Every refusal has a number, 1 to 11, a sentence on what went wrong and one on what to do: [`Error`], [`Cause`].
 
+#![deny(missing_docs, rustdoc::broken_intra_doc_links)]
+
 mod cache;
 mod cause;
 mod cmd;
@@ -60,7 +62,7 @@ pub use error::{Error, Limit};
 pub use pipeline::{Pipeline, pipe};
 pub use record::Call;
 pub use statistics::CacheStatistics;
-pub use stream::{Event, Lost, Stream, Ticket, tracking_on};
+pub use stream::{Event, Lost, NoAnswer, Stream, Ticket, tracking_on};
 pub use value::{FromRedisValue, OwnedValue, ParsingError, ServerError, Value, from_redis_value};
 
 /// The examples of the README, run as tests.

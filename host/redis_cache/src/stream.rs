@@ -4,7 +4,7 @@ mod tracking;
 
 pub use tracking::tracking_on;
 
-use crate::frame::{End, value_end};
+use crate::lent::{ValueEnd, value_end};
 use crate::{
     Cache, Call, Cause, Error, OwnedAnswer, OwnedValue, Plan, Replies, ServerError, Value,
 };
@@ -86,6 +86,44 @@ impl fmt::Display for Lost {
 
 impl std::error::Error for Lost {}
 
+/// Why the next call in turn has no answer.
+///
+/// ```
+/// use redis_cache::{Cache, CacheConfig, NoAnswer, Stream, cmd};
+///
+/// let mut stream = Stream::new(Cache::new(CacheConfig::new())?);
+/// stream.send(0, &cmd("PING"))?;
+/// stream.disconnected();
+/// let Some(Err(none)) = stream.next_answer() else { panic!("no answer") };
+/// assert_eq!(none, NoAnswer::Dropped);
+/// assert!(none.to_string().ends_with("Ask again on a new connection."));
+/// # Ok::<(), redis_cache::Error>(())
+/// ```
+#[derive(Clone, Debug, PartialEq, Eq)]
+pub enum NoAnswer {
+    /// Its replies were refused.
+    Refused(Error),
+    /// It was open when the connection was lost, or was made before the next one.
+    Dropped,
+    /// The connection is to be taken as lost.
+    Lost(Lost),
+}
+
+impl fmt::Display for NoAnswer {
+    fn fmt(&self, f: &mut fmt::Formatter<'_>) -> fmt::Result {
+        match self {
+            NoAnswer::Refused(error) => error.fmt(f),
+            NoAnswer::Dropped => write!(
+                f,
+                "the connection was lost before the call was answered. Ask again on a new connection."
+            ),
+            NoAnswer::Lost(lost) => lost.fmt(f),
+        }
+    }
+}
+
+impl std::error::Error for NoAnswer {}
+
 /// A cache on one connection after another. The host has the socket: it hands in the bytes that arrived, in their order, sends
 /// the bytes that are to be sent, and takes the events. Framing, the order of replies and pushes, and the collecting of replies
 /// are seen to here:
@@ -139,6 +177,8 @@ pub struct Stream {
     auth: Option<(String, String)>,
     /// Received, and not yet a whole value.
     incoming: Vec<u8>,
+    /// How long it is to be before it is read again: as long as a value can be whole, or twice as long as it was.
+    needed: usize,
     outgoing: Vec<u8>,
     /// How many responses to `HELLO` and `CLIENT TRACKING` are still to come.
     greetings: usize,
@@ -193,6 +233,7 @@ impl Stream {
             cache,
             auth,
             incoming: Vec::new(),
+            needed: 0,
             outgoing: Vec::new(),
             greetings: 0,
             open: VecDeque::new(),
@@ -304,17 +345,25 @@ impl Stream {
         if self.lost {
             return;
         }
+        self.incoming.extend_from_slice(bytes);
+        // A long list that comes in small pieces is not read again for each of them.
+        if self.incoming.len() < self.needed {
+            return;
+        }
         let mut incoming = std::mem::take(&mut self.incoming);
-        incoming.extend_from_slice(bytes);
         let mut at = 0;
         while !self.lost {
             match value_end(&incoming[at..]) {
-                End::Complete(length) => {
+                ValueEnd::Complete(length) => {
                     self.value(clock, &incoming[at..at + length]);
                     at += length;
                 }
-                End::More => break,
-                End::Wrong => self.lose(Lost::Refused(Error::of(Cause::BadReply))),
+                ValueEnd::More(lacking) => {
+                    let rest = incoming.len() - at;
+                    self.needed = (rest + lacking).min(2 * rest);
+                    break;
+                }
+                ValueEnd::Wrong => self.lose(Lost::Refused(Error::of(Cause::BadReply))),
             }
         }
         if !self.lost {
@@ -336,6 +385,32 @@ impl Stream {
         self.events.pop_front()
     }
 
+    /// The next answer, for a host that makes one call after the other: pushes are passed over, and what else happens to a call is an error. `None` where
+    /// more bytes have to arrive first.
+    ///
+    /// ```
+    /// use redis_cache::{Cache, CacheConfig, Stream, cmd};
+    ///
+    /// let mut stream = Stream::new(Cache::new(CacheConfig::new())?);
+    /// stream.send(0, &cmd("PING"))?;
+    /// assert!(stream.next_answer().is_none());
+    /// stream.received(0, b"%0\r\n+OK\r\n+PONG\r\n");
+    /// let answer = stream.next_answer().expect("it is there")?;
+    /// assert_eq!(answer.query::<String>()?, "PONG");
+    /// # Ok::<(), Box<dyn std::error::Error>>(())
+    /// ```
+    pub fn next_answer(&mut self) -> Option<Result<OwnedAnswer, NoAnswer>> {
+        loop {
+            return Some(match self.next_event()? {
+                Event::Push(_) => continue,
+                Event::Answer(_, answer) => Ok(answer),
+                Event::Refused(_, error) => Err(NoAnswer::Refused(error)),
+                Event::Dropped(_) => Err(NoAnswer::Dropped),
+                Event::Lost(lost) => Err(NoAnswer::Lost(lost)),
+            });
+        }
+    }
+
     /// The connection is gone. Open calls are dropped, and until [`Stream::reconnected`] so is every call: what is kept may have
     /// been invalidated unheard.
     ///
@@ -351,6 +426,7 @@ impl Stream {
     pub fn disconnected(&mut self) {
         self.lost = true;
         self.incoming.clear();
+        self.needed = 0;
         self.outgoing.clear();
         self.between.clear();
         self.greetings = 0;

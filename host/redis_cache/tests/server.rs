@@ -4,9 +4,10 @@
 mod common;
 
 use common::Server;
+use redis_cache::lent::{ValueEnd, value_end};
 use redis_cache::{
-    Cache, CacheConfig, CacheMode, Call, Clock, Cmd, CommandCacheConfig, Event, OwnedAnswer,
-    Stream, cmd, pipe,
+    Cache, CacheConfig, CacheMode, Call, Clock, Cmd, CommandCacheConfig, Error, Event, NoAnswer,
+    OwnedAnswer, ServerError, Stream, cmd, pipe, tracking_on,
 };
 use std::io::{Read, Write};
 use std::os::unix::net::UnixStream;
@@ -38,6 +39,18 @@ impl Desk {
             match self.stream.next_event() {
                 Some(Event::Answer(ticket, answer)) if ticket == asked => return (answer, sends),
                 Some(Event::Push(_)) => continue,
+                Some(other) => panic!("{other:?}"),
+                None => self.read(),
+            }
+        }
+    }
+
+    /// Why a call is refused.
+    fn refused(&mut self, call: &impl Call) -> Error {
+        self.stream.send(self.clock.now(), call).expect("a call");
+        loop {
+            match self.stream.next_answer() {
+                Some(Err(NoAnswer::Refused(error))) => return error,
                 Some(other) => panic!("{other:?}"),
                 None => self.read(),
             }
@@ -182,4 +195,135 @@ fn restart() {
     desk.stream.reconnected();
     assert_eq!(desk.catch(&get), ("none".into(), true));
     assert_eq!(desk.stream.cache().epoch(), 1);
+}
+
+/// What the server refuses keeps its words: an error of one command, a transaction that is discarded, and one whose watched key was written.
+#[test]
+fn what_the_server_says() {
+    let Some(server) = Server::start("words") else {
+        return;
+    };
+    let mut desk = Desk::new(&server, CacheMode::All);
+    let mut trap = Trap(server.connect());
+    trap.post("HSET trap9 catch 3");
+    let (answer, _) = desk.ask(cmd("GET").arg("trap9"));
+    let wrong: Result<String, ServerError> = answer.query().expect("an error is an answer");
+    assert_eq!(wrong.expect_err("a hash").code(), "WRONGTYPE");
+
+    let mut unknown = pipe();
+    unknown.atomic().cmd("GET").arg("trap7").cmd("FETCH").arg(1);
+    let refused = desk.refused(&unknown);
+    assert_eq!(
+        refused.server_error().map(ServerError::code),
+        Some("EXECABORT")
+    );
+    let queued = refused.queued_error().expect("why it was discarded");
+    assert!(queued.to_string().contains("unknown command"), "{queued}");
+    assert!(
+        refused.to_string().contains(&queued.to_string()),
+        "{refused}"
+    );
+
+    desk.ask(cmd("WATCH").arg("trap7"));
+    trap.post("SET trap7 13");
+    let mut watched = pipe();
+    watched.atomic().cmd("SET").arg("trap7").arg(12);
+    let refused = desk.refused(&watched);
+    assert_eq!(refused.number(), 7);
+    assert!(
+        refused.to_string().contains("EXEC was answered by null"),
+        "{refused}"
+    );
+    assert_eq!(
+        desk.catch(&get("trap7", CacheMode::All)),
+        ("13".into(), true)
+    );
+}
+
+/// So many values, as they arrive on a connection.
+fn values(socket: &mut UnixStream, count: usize) -> Vec<Vec<u8>> {
+    let (mut received, mut values) = (Vec::new(), Vec::new());
+    while values.len() < count {
+        match value_end(&received) {
+            ValueEnd::Complete(length) => values.push(received.drain(..length).collect()),
+            ValueEnd::Wrong => panic!("{received:?}"),
+            ValueEnd::More(_) => {
+                let mut bytes = [0; 4096];
+                let n = socket.read(&mut bytes).expect("received");
+                assert_ne!(n, 0, "the server hung up");
+                received.extend_from_slice(&bytes[..n]);
+            }
+        }
+    }
+    values
+}
+
+/// A hazard of hosts without a stream: the push stands behind the replies and is handled before they are stored. The old catch is served from then on.
+#[test]
+fn a_push_handled_before_the_replies_it_stands_behind() {
+    let Some(server) = Server::start("overtaken") else {
+        return;
+    };
+    let mut trap = Trap(server.connect());
+    trap.post("SET trap7 0");
+    let (mut socket, get) = (server.connect(), get("trap7", CacheMode::All));
+    let mut cache = Cache::new(CacheConfig::new()).expect("these settings");
+    let plan = cache.plan(0, &get).expect("a plan");
+    socket
+        .write_all(&tracking_on(CacheMode::All))
+        .expect("sent");
+    socket.write_all(plan.send()).expect("sent");
+    let answers = values(&mut socket, 4);
+    trap.post("SET trap7 5");
+    let push = values(&mut socket, 1);
+
+    cache.on_push(&push[0]).expect("a push");
+    let mut replies = plan.replies();
+    answers[2..].iter().for_each(|reply| replies.add(reply));
+    cache.resolve(0, &plan, &replies).expect("an answer");
+    let served = cache.plan(1, &get).expect("a plan");
+    assert!(served.is_served());
+    let answer = cache.resolve(1, &served, &served.replies());
+    assert_eq!(answer.expect("an answer").query(), Ok(0), "the stale zero");
+}
+
+/// A hazard: what a call reads, writes and reads again is served as it was. The next call is not.
+#[test]
+fn a_call_that_reads_what_it_writes() {
+    let Some(server) = Server::start("own-write") else {
+        return;
+    };
+    let mut desk = Desk::new(&server, CacheMode::All);
+    Trap(server.connect()).post("SET trap7 0");
+    let get = get("trap7", CacheMode::All);
+    assert_eq!(desk.catch(&get), ("0".into(), true));
+    let mut call = pipe();
+    call.add_command(get.clone());
+    call.cmd("SET").arg("trap7").arg(5).ignore();
+    call.add_command(get.clone());
+    assert_eq!(desk.ask(&call).0.query(), Ok((0, 0)));
+    desk.hear(1);
+    assert_eq!(desk.catch(&get), ("5".into(), true));
+}
+
+/// A hazard: all replies of one call are over 16 MiB.
+#[test]
+fn replies_over_16_mib() {
+    let Some(server) = Server::start("long") else {
+        return;
+    };
+    let mut desk = Desk::new(&server, CacheMode::All);
+    let mut trap = Trap(server.connect());
+    let long = 9 << 20;
+    for report in ["report1", "report2"] {
+        trap.post(&format!("SETRANGE {report} {long} x"));
+    }
+    let mut both = pipe();
+    both.cmd("GET").arg("report1").cmd("GET").arg("report2");
+    assert_eq!(desk.refused(&both).number(), 6);
+    let (answer, _) = desk.ask(cmd("GET").arg("report1"));
+    assert_eq!(
+        answer.query::<Vec<u8>>().map(|text| text.len()),
+        Ok(long + 1)
+    );
 }

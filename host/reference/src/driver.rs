@@ -51,7 +51,7 @@ impl Reference {
     }
 
     /// The crate's manager over this cache, under the call's clock, epoch and settings.
-    fn manager(&self, at: At) -> CacheManager {
+    pub(crate) fn manager(&self, at: At) -> CacheManager {
         clock::set(at.clock);
         space::set(self.shard_bytes);
         CacheManager {

@@ -8,6 +8,7 @@
 
 #[macro_use]
 mod shims;
+mod alone;
 mod contents;
 mod driver;
 mod plan;
@@ -15,6 +16,7 @@ mod request;
 
 include!(concat!(env!("OUT_DIR"), "/tree.rs"));
 
+pub use alone::{Asked, Open, Replies};
 pub use contents::{commands_path, countdigits, is_cachable_cmd};
 pub use driver::Reference;
 pub use request::Request;

@@ -12,7 +12,7 @@ use Rattle.arena_check.proofs.entry_ok.Reads as reads
 use Rattle.arena_check.proofs.entry_ok.Lts as lts
 use Rattle.buffer.proofs.read_u32.Reads as read-u32-reads
 use Rattle.buffer.proofs.read_u64.Reads as read-u64-reads
-use Rattle.resp3.proofs.is_value.Reads as is-value-reads
+use Rattle.resp3.proofs.value_in.Reads as value-in-reads
 
 sub-if1 : tie.Need-sub-if1
 sub-if1 c = search needs
@@ -65,26 +65,17 @@ returns-4 c =
     sym (entry-command isValue (a .s .now) (a .end) (a .at) (omega arith) (omega arith)
     (zero-read 8 (a .s .now) (a .at + 8) _ (omega arith) (c .before .before .read-u64 .ensures) ∙ eq-eqb _ 0 (c .before .if3 .left)) (omega arith))
 
-sub-is-value : tie.Need-sub-is-value
-sub-is-value c = search needs
-
-part-is-value-start : tie.Need-part-is-value-start
-part-is-value-start c = search needs
-
-part-is-value-end : tie.Need-part-is-value-end
-part-is-value-end c = search needs
-
-is-value-requires : tie.Need-is-value-requires
-is-value-requires c κs = search needs
+value-in-requires : tie.Need-value-in-requires
+value-in-requires c κs = search needs
 
 returns-5 : tie.Need-returns-5
 returns-5 c =
-    let a = c .before .before .before .before .before .before .before .before .before .before .args in
-    value-read (a .s .now) (a .at) _ _ _ (c .before .before .before .before .before .before .before .read-u32 .ensures)
-    (c .before .before .before .before .before .before .read-u322 .ensures) (c .is-value .ensures)
+    let a = c .before .before .before .before .before .before .before .before .before .args in
+    value-read (a .s .now) (a .at) _ _ _ (c .before .before .before .before .before .before .read-u32 .ensures)
+    (c .before .before .before .before .before .read-u322 .ensures) (c .value-in .ensures)
     ∙ sym (entry-value isValue (a .s .now) (a .end) (a .at) (omega arith) (omega arith)
-    (zero-read 8 (a .s .now) (a .at + 8) _ (omega arith) (c .before .before .before .before .read-u64 .ensures) ∙ eq-eqb _ 0
-    (c .before .before .before .if3 .left)) (omega arith))
+    (zero-read 8 (a .s .now) (a .at + 8) _ (omega arith) (c .before .before .before .read-u64 .ensures) ∙ eq-eqb _ 0
+    (c .before .before .if3 .left)) (omega arith))
 
 pub entry-ok-spec : {M : Type 1} → statement M
 entry-ok-spec =
@@ -105,8 +96,5 @@ entry-ok-spec =
     read-u64-requires
     returns-3
     returns-4
-    sub-is-value
-    part-is-value-start
-    part-is-value-end
-    is-value-requires
+    value-in-requires
     returns-5)

@@ -1,13 +1,12 @@
 -- `arena_check::item_ok` meets its contract: one law for each path. Assumes nothing.
-use mathlib.Core.Path.{sym, ap, _∙_}
-use Prim.Native.Nat.{ℕ, _+_, _%_}
+use mathlib.Core.Path.{sym, _∙_}
+use Prim.Native.Nat.{_+_}
 use native.Mathlib.Omega.{arith}
-use lib.Dec.{eqb}
 use borrow.Author.Tests.{ne-eqb, eq-eqb}
 use Rattle.resp3.specs.Ends.{isValue}
 use Rattle.arena_check.specs.Home.{homeIn}
 use Rattle.arena_check.proofs.Laws.{zero-read}
-use Rattle.arena_check.proofs.Items.{ends-read, item-filled, item-long, item-away, item-empty, item-rest}
+use Rattle.arena_check.proofs.Items.{ends-read, home-read, item-filled, item-long, item-away, item-empty, item-rest}
 use borrow.Author.Needs.{needs}
 use Rattle.arena_check.proofs.item_ok.Statement.{statement}
 use Rattle.arena_check.proofs.item_ok.Tie as tie
@@ -42,17 +41,17 @@ returns-2 c =
     (zero-read 4 (a .s .now) (a .at + 28) _ (omega arith) (c .before .before .before .read-u32 .ensures) ∙ eq-eqb _ 0 (c .before .before .if1 .left))
     (omega arith))
 
-rem-if3 : tie.Need-rem-if3
-rem-if3 c = search needs
+home-of-requires : tie.Need-home-of-requires
+home-of-requires c κs = search needs
 
 returns-3 : tie.Need-returns-3
 returns-3 c =
-    let a = c .before .before .before .before .before .before .args in
-    let away = ap (λ (i : ℕ). eqb (i % a .shards) (a .shard)) (sym (c .before .before .before .before .before .before .pre .4)) ∙ ne-eqb _ (a .shard)
-    (c .if3 .taken) in
+    let a = c .before .before .before .before .before .before .before .args in
+    let away = home-read (a .shards) (a .shard) _ _ _ _ (c .before .before .before .before .before .before .before .pre .4) (c .before .home-of .ensures)
+    (ne-eqb _ (a .shard) (c .if3 .taken)) in
     sym (item-away isValue (homeIn (a .shards)) (a .s .now) (a .shard) (a .end) (a .at) (omega arith) (omega arith)
-    (zero-read 4 (a .s .now) (a .at + 28) _ (omega arith) (c .before .before .before .before .read-u32 .ensures) ∙ eq-eqb _ 0
-    (c .before .before .before .if1 .left)) (omega arith) away)
+    (zero-read 4 (a .s .now) (a .at + 28) _ (omega arith) (c .before .before .before .before .before .read-u32 .ensures) ∙ eq-eqb _ 0
+    (c .before .before .before .before .if1 .left)) (omega arith) away)
 
 add-read-u32-2 : tie.Need-add-read-u32-2
 add-read-u32-2 c = omega arith
@@ -65,12 +64,12 @@ cast-n c = search needs
 
 returns-4 : tie.Need-returns-4
 returns-4 c =
-    let a = c .before .before .before .before .before .before .before .before .args in
-    let home = ap (λ (i : ℕ). eqb (i % a .shards) (a .shard)) (sym (c .before .before .before .before .before .before .before .before .pre .4))
-    ∙ eq-eqb _ (a .shard) (c .before .before .if3 .left) in
+    let a = c .before .before .before .before .before .before .before .before .before .args in
+    let home = home-read (a .shards) (a .shard) _ _ _ _ (c .before .before .before .before .before .before .before .before .before .pre .4) (c .before .before .before .home-of .ensures)
+    (eq-eqb _ (a .shard) (c .before .before .if3 .left)) in
     sym (item-empty isValue (homeIn (a .shards)) (a .s .now) (a .shard) (a .end) (a .at) (omega arith) (omega arith)
-    (zero-read 4 (a .s .now) (a .at + 28) _ (omega arith) (c .before .before .before .before .before .before .read-u32 .ensures) ∙ eq-eqb _ 0
-    (c .before .before .before .before .before .if1 .left)) (omega arith) home (omega arith))
+    (zero-read 4 (a .s .now) (a .at + 28) _ (omega arith) (c .before .before .before .before .before .before .before .read-u32 .ensures) ∙ eq-eqb _ 0
+    (c .before .before .before .before .before .before .if1 .left)) (omega arith) home (omega arith))
 
 next-place-requires : tie.Need-next-place-requires
 next-place-requires c κs = omega arith
@@ -86,15 +85,14 @@ entries-end-requires c κs = let e = c .next-place .ensures in omega arith
 
 returns-5 : tie.Need-returns-5
 returns-5 c =
-    let a = c .before .before .before .before .before .before .before .before .before .before .args in
-    let home = ap (λ (i : ℕ). eqb (i % a .shards) (a .shard))
-    (sym (c .before .before .before .before .before .before .before .before .before .before .pre .4)) ∙ eq-eqb _ (a .shard)
-    (c .before .before .before .before .if3 .left) in
-    ends-read (a .s .now) (a .at) _ _ _ _ (c .before .before .before .before .before .before .read-u322 .ensures)
+    let a = c .before .before .before .before .before .before .before .before .before .before .before .args in
+    let home = home-read (a .shards) (a .shard) _ _ _ _ (c .before .before .before .before .before .before .before .before .before .before .before .pre .4) (c .before .before .before .before .before .home-of .ensures)
+    (eq-eqb _ (a .shard) (c .before .before .before .before .if3 .left)) in
+    ends-read (a .s .now) (a .at) _ _ _ _ (c .before .before .before .before .before .before .before .read-u322 .ensures)
     (c .before .before .before .read-u323 .ensures) (c .before .next-place .ensures) (c .entries-end .ensures)
     ∙ item-rest isValue (homeIn (a .shards)) (a .s .now) (a .shard) (a .end) (a .at) (omega arith) (omega arith)
-    (zero-read 4 (a .s .now) (a .at + 28) _ (omega arith) (c .before .before .before .before .before .before .before .before .read-u32 .ensures)
-    ∙ eq-eqb _ 0 (c .before .before .before .before .before .before .before .if1 .left)) (omega arith) home (omega arith)
+    (zero-read 4 (a .s .now) (a .at + 28) _ (omega arith) (c .before .before .before .before .before .before .before .before .before .read-u32 .ensures)
+    ∙ eq-eqb _ 0 (c .before .before .before .before .before .before .before .before .if1 .left)) (omega arith) home (omega arith)
 
 pub item-ok-spec : {M : Type 1} → statement M
 item-ok-spec =
@@ -106,7 +104,7 @@ item-ok-spec =
     read-u32-requires-2
     cast-k
     returns-2
-    rem-if3
+    home-of-requires
     returns-3
     add-read-u32-2
     read-u32-requires-3

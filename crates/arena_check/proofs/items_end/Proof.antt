@@ -13,7 +13,7 @@ use Rattle.arena_check.proofs.items_end.Statement.{statement}
 use Rattle.arena_check.proofs.items_end.Tie as tie
 use Rattle.arena_check.proofs.items_end.Reads as reads
 use Rattle.arena_check.proofs.items_end.Lts as lts
-use Rattle.arena_check.proofs.distinct.Reads as distinct-reads
+use Rattle.arena_check.proofs.many_distinct.Reads as many-distinct-reads
 use Rattle.arena_check.proofs.item_ok.Reads as item-ok-reads
 use Rattle.arena_check.proofs.item_within.Reads as item-within-reads
 use Rattle.arena_check.proofs.key_hash.Reads as key-hash-reads
@@ -92,8 +92,8 @@ loop-again c =
     walk-next (itemNext (a .s .now)) (itemOk isValue (homeIn (a .shards)) (a .s .now) (a .shard) (a .end)) (a .end) 16 (a .n) (l .at) (l .i) (l .inv)
     (omega arith) (sym (c .before .before .item-ok .ensures) ∙ not-false _ (c .before .if2 .left)) (q .1) _ (c .next-place .ensures)
 
-distinct-requires : tie.Need-distinct-requires Inv-loop μ-loop
-distinct-requires c κs =
+many-distinct-requires : tie.Need-many-distinct-requires Inv-loop μ-loop
+many-distinct-requires c κs =
     let a = c .before .before .before .args in
     let l = c .before .loop in
     let w = walk-inside (itemNext (a .s .now)) (itemOk isValue (homeIn (a .shards)) (a .s .now) (a .shard) (a .end)) (a .end) 16 (a .n) (l .at)
@@ -105,7 +105,7 @@ unfolding itemsEnd
 returns-3 c =
     let a = c .before .before .before .before .before .args in
     sym (walk-answer (keyAt (a .s .now)) (itemNext (a .s .now)) (itemOk isValue (homeIn (a .shards)) (a .s .now) (a .shard) (a .end)) 16
-    (c .before .distinct .result) false (a .n) (not-true _ (c .if3 .taken)) (c .before .distinct .ensures))
+    (c .before .many-distinct .result) false (a .n) (not-true _ (c .if3 .taken)) (c .before .many-distinct .ensures))
 
 returns-4 : tie.Need-returns-4 Inv-loop μ-loop
 unfolding itemsEnd
@@ -113,7 +113,7 @@ returns-4 c =
     let a = c .before .before .before .before .before .args in
     let l = c .before .before .before .loop in
     sym (walk-answer (keyAt (a .s .now)) (itemNext (a .s .now)) (itemOk isValue (homeIn (a .shards)) (a .s .now) (a .shard) (a .end)) 16
-    (c .before .distinct .result) true (a .n) (not-false _ (c .if3 .left)) (c .before .distinct .ensures)
+    (c .before .many-distinct .result) true (a .n) (not-false _ (c .if3 .left)) (c .before .many-distinct .ensures)
     ∙ walk-done (itemNext (a .s .now)) (itemOk isValue (homeIn (a .shards)) (a .s .now) (a .shard) (a .end)) (a .end) 16 (a .n) (l .at) (l .i)
     (l .inv) (omega arith))
 
@@ -133,6 +133,6 @@ items-end-spec =
     add-i
     loop-less
     loop-again
-    distinct-requires
+    many-distinct-requires
     returns-3
     returns-4)

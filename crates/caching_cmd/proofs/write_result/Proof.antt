@@ -12,31 +12,30 @@ use borrow.Author.Needs.{needs}
 use Rattle.caching_cmd.proofs.write_result.Statement.{statement}
 use Rattle.caching_cmd.proofs.write_result.Tie as tie
 
-store-pass-requires : tie.Need-store-pass-requires
-store-pass-requires c κs = search needs
-
 write-result-head-requires : tie.Need-write-result-head-requires
 write-result-head-requires c κs = search needs
 
 answer-pass-requires : tie.Need-answer-pass-requires
-answer-pass-requires c κs = let x = c .before .before .before .before .before .before .before .before .before .before .before .before .before .args in (c .before .before .before .before .before .before .before .before .before .before .before .before .before .pre .1, listed.fine-same _ _ _ (x .g .mode) (x .clock) _ _ _ _ (c .before .before .before .write-result-head .ensures .0) (c .before .before .answer .given) (c .before .before .before .before .before .before .before .before .before .before .before .before .before .pre .3))
+answer-pass-requires c κs =
+    let k = c .before .before .before .before .before .before .before .before in
+    let x = k .args in
+    (k .pre .0, listed.fine-same _ _ _ (x .g .mode) (x .clock) _ _ _ _ (c .before .before .before .write-result-head .ensures .0) (c .before .before .answer .given) (k .pre .2))
 
 same-length : tie.Need-same-length
 same-length c = search needs
 
-same-length-2 : tie.Need-same-length-2
-same-length-2 c = search needs
-
 returns : tie.Need-returns
-returns c = let x = c .before .before .before .before .before .before .before .before .before .before .before .before .before .before .before .before .args in let w = c .before .before .before .before .before .before .write-result-head .ensures in λ ns es rs h. let z = c .before .before .answer-pass .ensures ns es rs h in let B : Bytes = answerBytes (walk (x .g .mode) (x .clock) ns es rs) in (c .before .before .before .before .before .before .before .before .before .before .store-pass .result, ap (λ (i : ℕ). Answered i (c .before .before .before .before .before .before .before .before .before .before .store-pass .result)) (z .0 ∙ ap (λ (i : ℕ). i + length B) (w .0)), c .before .before .before .before .before .before .before .before .before .before .store-pass .ensures ns es rs h, z .1 ∙ ap₂ (λ (s : Bytes) (i : ℕ). put s i B) (w .1) (w .0))
+returns c =
+    let x = c .before .before .before .before .before .before .before .before .before .before .before .args in
+    let w = c .before .before .before .before .before .before .write-result-head .ensures in
+    λ ns es rs h.
+    let z = c .before .before .answer-pass .ensures ns es rs h in
+    let B : Bytes = answerBytes (walk (x .g .mode) (x .clock) ns es rs) in (
+      ap (λ (i : ℕ). Answered i (x .refused)) (z .0 ∙ ap (λ (i : ℕ). i + length B) (w .0)),
+      z .1 ∙ ap₂ (λ (s : Bytes) (i : ℕ). put s i B) (w .1) (w .0),
+    )
 
 pub write-result-spec : {M : Type 1} → statement M
 write-result-spec =
     tie.close
-    (tie.spec
-    store-pass-requires
-    write-result-head-requires
-    answer-pass-requires
-    same-length
-    same-length-2
-    returns)
+    (tie.spec write-result-head-requires answer-pass-requires same-length returns)

@@ -1,4 +1,4 @@
--- `has_key` meets its contract: keys of different lengths differ. Assumes nothing.
+-- `has_key` meets its contract: keys of different lengths differ, and so do those with other last bytes. Assumes nothing.
 use mathlib.Core.Path.{_≡_, sym, ap, _∙_}
 use Prim.Native.Nat.{ℕ, _+_}
 use native.Mathlib.Omega.{arith}
@@ -20,15 +20,21 @@ cast-if1 c = search needs
 returns : tie.Need-returns
 returns c front back it w = let f = fields w in sym (same-length _ _ (λ e. c .if1 .taken (omega arith)))
 
-add-same-at : tie.Need-add-same-at
-add-same-at c = let f = fields (c .before .before .before .before .pre .stands) in omega arith
-
-same-at-requires : tie.Need-same-at-requires
-same-at-requires c κs = let f = fields (c .before .before .before .before .pre .stands) in omega arith
+other-tail-requires : tie.Need-other-tail-requires
+other-tail-requires c κs = search needs
 
 returns-2 : tie.Need-returns-2
-returns-2 c front back it w =
-    let a = c .before .before .before .before .before .args in
+returns-2 c front back it w = sym (c .before .other-tail .ensures front back it w (c .if2 .taken))
+
+add-same-at : tie.Need-add-same-at
+add-same-at c = let f = fields (c .before .before .before .before .before .before .pre .stands) in omega arith
+
+same-at-requires : tie.Need-same-at-requires
+same-at-requires c κs = let f = fields (c .before .before .before .before .before .before .pre .stands) in omega arith
+
+returns-3 : tie.Need-returns-3
+returns-3 c front back it w =
+    let a = c .before .before .before .before .before .before .before .args in
     let f = fields w in
     let l : length (a .key .now) ≡ length (it .key) = omega arith in
     let p : part (a .s .now) (a .at + 32) (length (a .key .now)) ≡ it .key = ap (λ (n : ℕ). part (a .s .now) (a .at + 32) n) l ∙ f .key in
@@ -36,4 +42,13 @@ returns-2 c front back it w =
 
 pub has-key-spec : {M : Type 1} → statement M
 has-key-spec =
-    tie.close (tie.spec read-u32-requires cast-if1 returns add-same-at same-at-requires returns-2)
+    tie.close
+    (tie.spec
+    read-u32-requires
+    cast-if1
+    returns
+    other-tail-requires
+    returns-2
+    add-same-at
+    same-at-requires
+    returns-3)

@@ -23,6 +23,14 @@ struct ResolveReturn {
     refused: u64,
 }
 
+/// `redis_cache_served_return` of the header.
+#[repr(C)]
+struct ServedReturn {
+    cause: u64,
+    answer: u64,
+    replies: u64,
+}
+
 unsafe extern "C" {
     fn redis_cache_plan(
         arena: *mut u8,
@@ -56,6 +64,13 @@ unsafe extern "C" {
         answer: *mut u8,
         answer_length: usize,
     ) -> ResolveReturn;
+
+    fn redis_cache_served(
+        plan: *const u8,
+        plan_length: usize,
+        answer: *mut u8,
+        answer_length: usize,
+    ) -> ServedReturn;
 
     fn redis_cache_push(
         arena: *mut u8,
@@ -146,6 +161,14 @@ pub(crate) fn resolve<'a>(
         answer: front(answer, resolved.answer),
         refused: resolved.refused,
     })
+}
+
+pub(crate) fn served<'a>(plan: &[u8], answer: &'a mut [u8]) -> Result<Option<&'a [u8]>, Cause> {
+    // SAFETY: plan and answer buffer are lent as above.
+    let served =
+        unsafe { redis_cache_served(plan.as_ptr(), plan.len(), answer.as_mut_ptr(), answer.len()) };
+    Cause::refuses(served.cause)?;
+    Ok((served.replies == 0).then(|| front(answer, served.answer)))
 }
 
 /// The bytes of a buffer that the library says it has written.

@@ -195,3 +195,28 @@ impl Cache<'_> {
         foreign::push(self.arena, self.settings, push, counts)
     }
 }
+
+/// Answers a plan whose commands are all served, without arena and replies: what [`Cache::resolve`] answers to it with any list of replies. `None` where
+/// some command needs replies. A transaction's `MULTI` and `EXEC` are to be sent even where all is served, by a host that watches keys or wants to be
+/// told that `EXEC` was refused: send them and resolve then. Bytes of the answer buffer behind the result stay as they were.
+///
+/// # Errors
+/// [`Cause::BadPlan`], [`Cause::ShortAnswer`]; the answer buffer is then as it was.
+///
+/// ```
+/// # use redis_cache::lent::{Cache, Counts, MODE_ALL, Now, Settings, served};
+/// # use redis_cache::{Call, cmd};
+/// # let settings = Settings { size: 4, mode: MODE_ALL, default_ttl: 1000 };
+/// # let (mut arena, mut counts) = (vec![0; 4096], Counts::default());
+/// # let (mut plan, mut send, mut answer) = (vec![0; 500], vec![0; 500], vec![0; 500]);
+/// let mut cache = Cache { arena: &mut arena, settings };
+/// cache.setup()?;
+/// cache.store(0, b"trap7", b"GETtrap7", b":12\r\n", 500)?;
+/// let (now, record) = (Now { clock: 0, epoch: 0 }, cmd("GET").arg("trap7").get_record()?);
+/// let planned = cache.plan(now, &record, &mut counts, &mut plan, &mut send).expect("a plan");
+/// assert_eq!(served(planned.plan, &mut answer)?, Some(&b"*1\r\n:12\r\n"[..]));
+/// # Ok::<(), Box<dyn std::error::Error>>(())
+/// ```
+pub fn served<'a>(plan: &[u8], answer: &'a mut [u8]) -> Result<Option<&'a [u8]>, Cause> {
+    foreign::served(plan, answer)
+}

@@ -5,7 +5,7 @@ use super::{Library, now, refusal};
 use crate::output::Output;
 use calls::{Answer, At, Outcome, Refusal, record};
 use model::layout;
-use redis_cache::Cause;
+use redis_cache::{Cause, lent};
 
 impl Library {
     pub(super) fn plan(
@@ -47,6 +47,7 @@ impl Library {
         replies: &[u8],
         room: usize,
     ) -> Result<Answer, Refusal> {
+        let served = self.served(plan, room);
         let mut answer = Output::of(room, self.side);
         let mut cache = self.cache(at);
         let resolved = cache.resolve(now(at), plan, replies, answer.bytes_mut());
@@ -58,10 +59,31 @@ impl Library {
             }
             refusal(cause)
         })?;
-        Ok(Answer::Resolved {
-            result: answer.written(length).to_vec(),
-            refused,
-        })
+        let result = answer.written(length).to_vec();
+        if let Some(served) = served {
+            assert_eq!(served, result, "answered without replies");
+        }
+        Ok(Answer::Resolved { result, refused })
+    }
+
+    /// The answer without arena and replies, where the plan needs none and the answer has room.
+    ///
+    /// # Panics
+    /// Where the library answers or refuses otherwise than the plan's bytes say.
+    fn served(&self, plan: &[u8], room: usize) -> Option<Vec<u8>> {
+        let mut answer = Output::of(room, self.side);
+        let served = lent::served(plan, answer.bytes_mut()).map(|bytes| bytes.map(<[u8]>::len));
+        let is_served =
+            |outcome: &Outcome| matches!(outcome, Outcome::Cached(_) | Outcome::CachedAll(_));
+        let whole = layout::plan::decode(plan).map(|read| read.outcomes.iter().all(is_served));
+        match (whole, served) {
+            (Some(true), Ok(Some(length))) => return Some(answer.written(length).to_vec()),
+            (None, Err(Cause::BadPlan))
+            | (Some(false), Ok(None))
+            | (Some(true), Err(Cause::ShortAnswer)) => answer.assert_unchanged(),
+            (whole, served) => panic!("served whole: {whole:?}, and the library: {served:?}"),
+        }
+        None
     }
 }
 

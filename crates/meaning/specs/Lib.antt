@@ -1,0 +1,4 @@
+pub mod Meaning
+pub mod Readings
+pub mod Theorems
+pub mod Only
