@@ -1,5 +1,6 @@
--- Where a stored value stands: the place of the first byte of the value that key k has for command key c, in its shard's bytes and in the whole arena, given
--- the rows. It follows docs/LAYOUT.md from the shard's header on. Where there is no such value the number means nothing. Assumes nothing: these are definitions.
+-- Where a stored value stands: the place of the first byte of the value that key k has for command key c, in its shard's bytes and in the whole arena,
+-- given the rows. It follows docs/LAYOUT.md from the shard's header on. Where there is no such value the number means nothing. Assumes nothing: these are
+-- definitions.
 use Prim.Native.Nat.{ℕ, _+_, _*_}
 use mathlib.Core.Bool.{cond}
 use mathlib.Core.List.{List, [], _∷_}

@@ -1,5 +1,5 @@
--- Worked cases of planning's lookups and outcomes, those of the joint table among them, each a theorem by itself, by computing. They lean on Ask.antt and Outcome.antt
--- alone, so that a wrong definition there fails here first. Mode All, a default TTL of 1,800,000 and the clock 5, unless they say otherwise.
+-- Worked cases of planning's lookups and outcomes, those of the joint table among them, each a theorem by itself, by computing. They lean on Ask.antt and
+-- Outcome.antt alone, so that a wrong definition there fails here first. Mode All, a default TTL of 1,800,000 and the clock 5, unless they say otherwise.
 use mathlib.Core.Path.{_≡_, refl}
 use mathlib.Core.Bool.{true, false}
 use mathlib.Core.List.{List, [], _∷_}

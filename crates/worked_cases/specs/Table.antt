@@ -1,5 +1,6 @@
 -- Document 01's cases that are to be proved, in one joint table: `Table` states them, in 01's order, each said above its line, by the definitions that the
--- contracts of the code cite (`checked` of setup and of every call, `singleCall`, `planCall`, `resolveCall`, `digits`, `isValue`); `table` proves it. Assumes nothing.
+-- contracts of the code cite (`checked` of setup and of every call, `singleCall`, `planCall`, `resolveCall`, `digits`, `isValue`); `table` proves it.
+-- Assumes nothing.
 use mathlib.Core.Path.{_≡_, refl}
 use mathlib.Core.Bool.{true, false}
 use mathlib.Core.List.{[], _∷_, _++_}

@@ -2,9 +2,6 @@
 use borrow.Author.Needs.{needs}
 use Rattle.caching.proofs.comes_to.Statement.{statement}
 use Rattle.caching.proofs.comes_to.Tie as tie
-use Rattle.caching.proofs.comes_to.Reads as reads
-use Rattle.caching.proofs.comes_to.Lts as lts
-use Rattle.caching.proofs.answer_number.Reads as answer-number-reads
 
 answer-number-requires : tie.Need-answer-number-requires
 answer-number-requires c κs = search needs

@@ -1,6 +1,5 @@
 -- `caching::lookup_counting` meets its contract: counts add up, and the value stands at its place. Assumes nothing.
 use mathlib.Core.Path.{refl, _∙_}
-use Prim.Native.Nat.{ℕ}
 use denote.Ref.{now}
 use Rattle.book.specs.Book.{Counts, lookup}
 use Rattle.single_calls.specs.Single.{singleCall}
@@ -13,12 +12,6 @@ use Rattle.caching.proofs.Adds.{looked-as}
 use borrow.Author.Needs.{needs}
 use Rattle.caching.proofs.lookup_counting.Statement.{statement}
 use Rattle.caching.proofs.lookup_counting.Tie as tie
-use Rattle.caching.proofs.lookup_counting.Reads as reads
-use Rattle.caching.proofs.lookup_counting.Lts as lts
-use Rattle.caching.proofs.lookup_return.Reads as lookup-return-reads
-use Rattle.caching.proofs.none_yet.Reads as none-yet-reads
-use Rattle.caching.proofs.served.Reads as served-reads
-use Rattle.single_calls.proofs.lookup.Reads as lookup-reads
 
 none-yet-requires : tie.Need-none-yet-requires
 none-yet-requires c κs = search needs

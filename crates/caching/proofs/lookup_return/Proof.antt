@@ -4,8 +4,6 @@ use Rattle.caching.specs.Exported.{lookupReturn}
 use borrow.Author.Needs.{needs}
 use Rattle.caching.proofs.lookup_return.Statement.{statement}
 use Rattle.caching.proofs.lookup_return.Tie as tie
-use Rattle.caching.proofs.lookup_return.Reads as reads
-use Rattle.caching.proofs.lookup_return.Lts as lts
 
 enum-told : tie.Need-enum-told
 enum-told c = search needs

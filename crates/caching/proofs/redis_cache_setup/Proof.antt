@@ -4,10 +4,6 @@ use Rattle.caching.specs.Exported.{setupReturn}
 use borrow.Author.Needs.{needs}
 use Rattle.caching.proofs.redis_cache_setup.Statement.{statement}
 use Rattle.caching.proofs.redis_cache_setup.Tie as tie
-use Rattle.caching.proofs.redis_cache_setup.Reads as reads
-use Rattle.caching.proofs.redis_cache_setup.Lts as lts
-use Rattle.caching.proofs.setup_return.Reads as setup-return-reads
-use Rattle.single_calls.proofs.setup.Reads as setup-reads
 
 setup-requires : tie.Need-setup-requires
 setup-requires c κs = search needs

@@ -3,10 +3,6 @@ use mathlib.Core.Path.{_∙_}
 use borrow.Author.Needs.{needs}
 use Rattle.caching.proofs.redis_cache_store.Statement.{statement}
 use Rattle.caching.proofs.redis_cache_store.Tie as tie
-use Rattle.caching.proofs.redis_cache_store.Reads as reads
-use Rattle.caching.proofs.redis_cache_store.Lts as lts
-use Rattle.caching.proofs.answer_number.Reads as answer-number-reads
-use Rattle.single_calls.proofs.store.Reads as store-reads
 
 store-requires : tie.Need-store-requires
 store-requires c κs = search needs
@@ -19,7 +15,8 @@ same-length c = search needs
 
 returns : tie.Need-returns
 returns c =
-    (λ lent next. c .answer-number .ensures ∙ c .before .before .before .store .ensures lent next .cause, λ lent next. c .before .before .before .store .ensures lent next .arena)
+    let c₃ = c .before .before .before in
+    (λ lent next. c .answer-number .ensures ∙ c₃ .store .ensures lent next .cause, λ lent next. c₃ .store .ensures lent next .arena)
 
 pub redis-cache-store-spec : {M : Type 1} → statement M
 redis-cache-store-spec =

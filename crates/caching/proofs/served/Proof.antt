@@ -8,8 +8,6 @@ use Rattle.single_calls.specs.Answers.{FoundIn}
 use borrow.Author.Needs.{needs}
 use Rattle.caching.proofs.served.Statement.{statement}
 use Rattle.caching.proofs.served.Tie as tie
-use Rattle.caching.proofs.served.Reads as reads
-use Rattle.caching.proofs.served.Lts as lts
 
 enum-known-found : tie.Need-enum-known-found
 enum-known-found c = search needs

@@ -4,8 +4,6 @@ use Rattle.caching.specs.Exported.{setupReturn}
 use borrow.Author.Needs.{needs}
 use Rattle.caching.proofs.setup_return.Statement.{statement}
 use Rattle.caching.proofs.setup_return.Tie as tie
-use Rattle.caching.proofs.setup_return.Reads as reads
-use Rattle.caching.proofs.setup_return.Lts as lts
 
 enum-known-cache : tie.Need-enum-known-cache
 enum-known-cache c = search needs

@@ -154,61 +154,61 @@ returns-2 : tie.Need-returns-2
 unfolding bodyBegun
 returns-2 c =
     let c₄ = c .before .before .before .before in
-    c .alone .ensures ∙ ap aloneOf (c .before .blob-begun .ensures) ∙ sym (kinded (c₄) _ (c .before .before .enum-told .given .1))
+    c .alone .ensures ∙ ap aloneOf (c .before .blob-begun .ensures) ∙ sym (kinded c₄ _ (c .before .before .enum-told .given .1))
 
 returns-3 : tie.Need-returns-3
 unfolding bodyBegun
 returns-3 c =
     let c₄ = c .before .before .before .before in
-    c .alone2 .ensures ∙ ap aloneOf (c .before .line-begun .ensures) ∙ sym (kinded (c₄) _ (c .before .before .enum-told2 .given .1))
+    c .alone2 .ensures ∙ ap aloneOf (c .before .line-begun .ensures) ∙ sym (kinded c₄ _ (c .before .before .enum-told2 .given .1))
 
 returns-4 : tie.Need-returns-4
 unfolding bodyBegun
 returns-4 c =
     let c₄ = c .before .before .before .before in
-    c .alone3 .ensures ∙ ap aloneOf (c .before .line-begun2 .ensures) ∙ sym (kinded (c₄) _ (c .before .before .enum-told3 .given .1))
+    c .alone3 .ensures ∙ ap aloneOf (c .before .line-begun2 .ensures) ∙ sym (kinded c₄ _ (c .before .before .enum-told3 .given .1))
 
 returns-5 : tie.Need-returns-5
 unfolding bodyBegun
 returns-5 c =
     let c₄ = c .before .before .before .before in
-    c .alone4 .ensures ∙ ap aloneOf (c .before .integer-begun .ensures) ∙ sym (kinded (c₄) _ (c .before .before .enum-told4 .given .1))
+    c .alone4 .ensures ∙ ap aloneOf (c .before .integer-begun .ensures) ∙ sym (kinded c₄ _ (c .before .before .enum-told4 .given .1))
 
 returns-6 : tie.Need-returns-6
 unfolding bodyBegun
 returns-6 c =
     let c₄ = c .before .before .before .before in
-    c .alone5 .ensures ∙ ap aloneOf (c .before .crlf-begun .ensures) ∙ sym (kinded (c₄) _ (c .before .before .enum-told5 .given .1))
+    c .alone5 .ensures ∙ ap aloneOf (c .before .crlf-begun .ensures) ∙ sym (kinded c₄ _ (c .before .before .enum-told5 .given .1))
 
 returns-7 : tie.Need-returns-7
 unfolding bodyBegun
 returns-7 c =
     let c₄ = c .before .before .before .before in
-    c .alone6 .ensures ∙ ap aloneOf (c .before .line-begun3 .ensures) ∙ sym (kinded (c₄) _ (c .before .before .enum-told6 .given .1))
+    c .alone6 .ensures ∙ ap aloneOf (c .before .line-begun3 .ensures) ∙ sym (kinded c₄ _ (c .before .before .enum-told6 .given .1))
 
 returns-8 : tie.Need-returns-8
 unfolding bodyBegun
 returns-8 c =
     let c₄ = c .before .before .before .before in
-    c .alone7 .ensures ∙ ap aloneOf (c .before .boolean-begun .ensures) ∙ sym (kinded (c₄) _ (c .before .before .enum-told7 .given .1))
+    c .alone7 .ensures ∙ ap aloneOf (c .before .boolean-begun .ensures) ∙ sym (kinded c₄ _ (c .before .before .enum-told7 .given .1))
 
 returns-9 : tie.Need-returns-9
 unfolding bodyBegun
 returns-9 c =
     let c₄ = c .before .before .before .before in
-    c .alone8 .ensures ∙ ap aloneOf (c .before .blob-begun2 .ensures) ∙ sym (kinded (c₄) _ (c .before .before .enum-told8 .given .1))
+    c .alone8 .ensures ∙ ap aloneOf (c .before .blob-begun2 .ensures) ∙ sym (kinded c₄ _ (c .before .before .enum-told8 .given .1))
 
 returns-10 : tie.Need-returns-10
 unfolding bodyBegun
 returns-10 c =
     let c₄ = c .before .before .before .before in
-    c .alone9 .ensures ∙ ap aloneOf (c .before .verbatim-begun .ensures) ∙ sym (kinded (c₄) _ (c .before .before .enum-told9 .given .1))
+    c .alone9 .ensures ∙ ap aloneOf (c .before .verbatim-begun .ensures) ∙ sym (kinded c₄ _ (c .before .before .enum-told9 .given .1))
 
 returns-11 : tie.Need-returns-11
 unfolding bodyBegun
 returns-11 c =
     let c₄ = c .before .before .before .before in
-    c .alone10 .ensures ∙ ap aloneOf (c .before .line-begun4 .ensures) ∙ sym (kinded (c₄) _ (c .before .before .enum-told10 .given .1))
+    c .alone10 .ensures ∙ ap aloneOf (c .before .line-begun4 .ensures) ∙ sym (kinded c₄ _ (c .before .before .enum-told10 .given .1))
 
 returns-12 : tie.Need-returns-12
 unfolding bodyBegun
@@ -238,10 +238,7 @@ pub head-begun-spec : {M : Type 1} → statement M
 head-begun-spec =
     tie.close
     (tie.spec
-    returns
-    add-p
-    shared-slice-read-kind-of
-    kind-of-requires
+    returns add-p shared-slice-read-kind-of kind-of-requires
     enum-told
     blob-begun-requires
     alone-requires

@@ -1,5 +1,4 @@
 -- `caching::plan_call::plan_counting` meets its contract: counts add up. Assumes nothing.
-use mathlib.Core.Path.{_≡_}
 use denote.Ref.{now}
 use Rattle.arena.specs.Sequence.{Held}
 use Rattle.cache_manager.specs.Pipeline.{Left, planCall}
@@ -8,11 +7,6 @@ use Rattle.caching.proofs.Adds.{planned-as}
 use borrow.Author.Needs.{needs}
 use Rattle.caching.proofs.plan_call.plan_counting.Statement.{statement}
 use Rattle.caching.proofs.plan_call.plan_counting.Tie as tie
-use Rattle.caching.proofs.plan_call.plan_counting.Reads as reads
-use Rattle.caching.proofs.plan_call.plan_counting.Lts as lts
-use Rattle.cache_manager.proofs.get_cached_pipeline.Reads as get-cached-pipeline-reads
-use Rattle.caching.proofs.none_yet.Reads as none-yet-reads
-use Rattle.caching.proofs.plan_call.plan_return.Reads as plan-return-reads
 
 none-yet-requires : tie.Need-none-yet-requires
 none-yet-requires c κs = search needs

@@ -7,9 +7,6 @@ use Rattle.caching.specs.Planned.{planReturn}
 use borrow.Author.Needs.{needs}
 use Rattle.caching.proofs.plan_call.plan_return.Statement.{statement}
 use Rattle.caching.proofs.plan_call.plan_return.Tie as tie
-use Rattle.caching.proofs.plan_call.plan_return.Reads as reads
-use Rattle.caching.proofs.plan_call.plan_return.Lts as lts
-use Rattle.caching.proofs.plan_call.refusal.Reads as refusal-reads
 
 enum-known-answer : tie.Need-enum-known-answer
 enum-known-answer c = search needs

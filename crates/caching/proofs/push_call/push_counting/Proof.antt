@@ -6,11 +6,6 @@ use Rattle.caching.proofs.Adds.{added-as}
 use borrow.Author.Needs.{needs}
 use Rattle.caching.proofs.push_call.push_counting.Statement.{statement}
 use Rattle.caching.proofs.push_call.push_counting.Tie as tie
-use Rattle.caching.proofs.push_call.push_counting.Reads as reads
-use Rattle.caching.proofs.push_call.push_counting.Lts as lts
-use Rattle.caching.proofs.comes_to.Reads as comes-to-reads
-use Rattle.caching.proofs.none_yet.Reads as none-yet-reads
-use Rattle.push.proofs.handle_push.Reads as handle-push-reads
 
 none-yet-requires : tie.Need-none-yet-requires
 none-yet-requires c κs = search needs

@@ -10,10 +10,6 @@ use Rattle.caching.specs.Resolved.{resolveReturn, answerReturn, resolveB
 use borrow.Author.Needs.{needs}
 use Rattle.caching.proofs.resolve_call.redis_cache_resolve.Statement.{statement}
 use Rattle.caching.proofs.resolve_call.redis_cache_resolve.Tie as tie
-use Rattle.caching.proofs.resolve_call.redis_cache_resolve.Reads as reads
-use Rattle.caching.proofs.resolve_call.redis_cache_resolve.Lts as lts
-use Rattle.caching.proofs.resolve_call.resolve_return.Reads as resolve-return-reads
-use Rattle.caching_cmd.proofs.resolve.Reads as resolve-reads
 
 -- the three numbers of what comes out
 return-is : (t : ResolveReturn) (r : ResolveAnswer) (arena buffer : Bytes) → Comes t r arena buffer → answerReturn r ≡ resolveReturn t

@@ -4,10 +4,6 @@ use Rattle.caching.specs.ServedAlone.{servedReturn}
 use borrow.Author.Needs.{needs}
 use Rattle.caching.proofs.served_call.redis_cache_served.Statement.{statement}
 use Rattle.caching.proofs.served_call.redis_cache_served.Tie as tie
-use Rattle.caching.proofs.served_call.redis_cache_served.Reads as reads
-use Rattle.caching.proofs.served_call.redis_cache_served.Lts as lts
-use Rattle.caching.proofs.served_call.served_return.Reads as served-return-reads
-use Rattle.served.proofs.served.Reads as served-reads
 
 served-requires : tie.Need-served-requires
 served-requires c κs = search needs

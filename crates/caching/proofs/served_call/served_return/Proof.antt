@@ -4,8 +4,6 @@ use Rattle.caching.specs.ServedAlone.{servedReturn}
 use borrow.Author.Needs.{needs}
 use Rattle.caching.proofs.served_call.served_return.Statement.{statement}
 use Rattle.caching.proofs.served_call.served_return.Tie as tie
-use Rattle.caching.proofs.served_call.served_return.Reads as reads
-use Rattle.caching.proofs.served_call.served_return.Lts as lts
 
 enum-known-answer : tie.Need-enum-known-answer
 enum-known-answer c = search needs

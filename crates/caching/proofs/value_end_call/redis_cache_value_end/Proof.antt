@@ -4,10 +4,6 @@ use Rattle.caching.specs.ValueEnd.{valueEndReturn}
 use borrow.Author.Needs.{needs}
 use Rattle.caching.proofs.value_end_call.redis_cache_value_end.Statement.{statement}
 use Rattle.caching.proofs.value_end_call.redis_cache_value_end.Tie as tie
-use Rattle.caching.proofs.value_end_call.redis_cache_value_end.Reads as reads
-use Rattle.caching.proofs.value_end_call.redis_cache_value_end.Lts as lts
-use Rattle.caching.proofs.value_end_call.value_end_return.Reads as value-end-return-reads
-use Rattle.resp3_prefix.proofs.first_value.Reads as first-value-reads
 
 first-value-requires : tie.Need-first-value-requires
 first-value-requires c κs = search needs

@@ -4,8 +4,6 @@ use Rattle.caching.specs.ValueEnd.{valueEndReturn}
 use borrow.Author.Needs.{needs}
 use Rattle.caching.proofs.value_end_call.value_end_return.Statement.{statement}
 use Rattle.caching.proofs.value_end_call.value_end_return.Tie as tie
-use Rattle.caching.proofs.value_end_call.value_end_return.Reads as reads
-use Rattle.caching.proofs.value_end_call.value_end_return.Lts as lts
 
 enum-known-x : tie.Need-enum-known-x
 enum-known-x c = search needs
