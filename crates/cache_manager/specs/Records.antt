@@ -10,10 +10,9 @@ use lib.ListN.{length}
 use borrow.Author.Tests.{ltb-false, lt-ltb, le-ltb}
 use Rattle.buffer.specs.Same.{Bytes}
 use Rattle.config.specs.Limits.{maxBytes, maxCommands}
-use Rattle.config.specs.Causes.{lateExpiry, shortBuffer, tooLong, badArena, badConfig}
+use Rattle.config.specs.Causes.{lateExpiry, shortBuffer, tooLong}
 use Rattle.config.specs.Config.{checked}
-use Rattle.config.specs.declared.CheckedConfig.{CheckedConfig}
-use Rattle.config.specs.declared.CheckedConfig.the-variants.{Fine as Passes, Refused as BadConfig}
+use Rattle.config.specs.declared.CheckedConfig.the-variants.{Fine as Passes}
 use Rattle.config.specs.declared.Settings.{Settings}
 use Rattle.statistics.specs.declared.Statistics.{Statistics}
 use Rattle.call_record.specs.Record.{Command, transaction}
@@ -25,16 +24,17 @@ use Rattle.resp3.specs.Ends.{isValue}
 use Rattle.book.specs.Book.{Row, afterAll}
 use Rattle.book.specs.Calls.{lookups, ons}
 use Rattle.arena.specs.Layout.{encode}
-use Rattle.arena.specs.Decode.{isImage, decode}
+use Rattle.arena.specs.Decode.{decode}
 use Rattle.arena.specs.Sequence.{Held, lend, bookOf}
 use Rattle.planning.specs.Ask.{anyLate}
 use Rattle.planning.specs.Outcome.{wanted}
 use Rattle.sharded_lru.specs.Lent.{setupNow}
-use Rattle.sharded_lru.specs.Admit.{admittedBy, admitted}
-use Rattle.sharded_lru.specs.declared.Admitted.the-variants.{Admits, Refused as NotAdmitted}
+use Rattle.sharded_lru.specs.Admit.{admitted}
+use Rattle.sharded_lru.specs.declared.Admitted.the-variants.{Refused as NotAdmitted}
+use Rattle.call_entry.specs.Laws.{is-entered, not-entered}
 use Rattle.look_up.specs.Looks.{countsOf}
 use Rattle.dry_pass.specs.Dry.{Planable}
-use Rattle.cache_manager.specs.Pipeline.{Returned, refusedAs, wrongAt, Left, refusal, recorded, judged, admittedTo, imaged, configured, planCall, returnedOf, holding, Leaves}
+use Rattle.cache_manager.specs.Pipeline.{Returned, refusedAs, wrongAt, Left, refusal, recorded, judged, admittedTo, planCall, returnedOf, holding, Leaves}
 use Rattle.cache_manager.specs.Planned.{planBytes, sendBytes, planNow, sendNow, late-refused, short-refused, all-written}
 use Rattle.cache_manager.specs.Passed.{Passed}
 use Rattle.cache_manager.specs.Fit.{Fit, planable}
@@ -137,20 +137,9 @@ module _ (t e : ℕ) (s d f : Bytes) (h : Held) (g : Settings) (rows : ℕ → R
 module _ (size mode ttl t e : ℕ) (s d f : Bytes) (h : Held) where
   pub call-admitted : (g : Settings) (rows : ℕ → Row) → checked size mode ttl (length (h .arena)) ≡ Passes g → decode isValue (setupNow g) (h .arena) ≡ some rows
       → planCall size mode ttl t e s d f h ≡ admittedTo t e s d f h g rows
-  unfolding planCall configured imaged
-  call-admitted g rows p q = rw (p, q)
-
-  refused-image : (n : ℕ) (g : Settings) (b : Bool) → isImage isValue (setupNow g) (h .arena) ≡ b → cond b (Admits g) (NotAdmitted badArena) ≡ NotAdmitted n
-      → imaged t e s d f h g (decode isValue (setupNow g) (h .arena)) ≡ refusal t e s d f h (refusedAs n)
-  unfolding imaged decode
-  refused-image n g true q y = let u : _≡_ {A = ℕ} 0 1 = cc in absurd (omega arith)
-  refused-image n g false q y = let u : badArena ≡ n = cc in rw q (ap (λ (m : ℕ). refusal t e s d f h (refusedAs m)) u)
-
-  refused-config : (n : ℕ) (x : CheckedConfig) → admittedBy x (h .arena) ≡ NotAdmitted n → configured t e s d f h x ≡ refusal t e s d f h (refusedAs n)
-  unfolding configured
-  refused-config n BadConfig y = let u : badConfig ≡ n = cc in ap (λ (m : ℕ). refusal t e s d f h (refusedAs m)) u
-  refused-config n (Passes g) y = refused-image n g (isImage isValue (setupNow g) (h .arena)) refl y
+  unfolding planCall
+  call-admitted g rows p q = is-entered (λ n. refusal t e s d f h (refusedAs n)) (admittedTo t e s d f h) _ (h .arena) g rows p q
 
   pub call-refused : (n : ℕ) → admitted size mode ttl (h .arena) ≡ NotAdmitted n → planCall size mode ttl t e s d f h ≡ refusal t e s d f h (refusedAs n)
-  unfolding planCall admitted
-  call-refused n z = refused-config n (checked size mode ttl (length (h .arena))) z
+  unfolding planCall
+  call-refused n z = not-entered (λ n. refusal t e s d f h (refusedAs n)) (admittedTo t e s d f h) size mode ttl n (h .arena) z

@@ -27,7 +27,8 @@ use Rattle.arena.specs.Place.{arenaPlace}
 use Rattle.sharded_lru.specs.Lent.{setupNow}
 use Rattle.sharded_lru.specs.Laws.{formed-set}
 use Rattle.sharded_lru.specs.Keeps.{fine-effect}
-use Rattle.single_calls.specs.Single.{Return, overlong, wrongBytes, servedBy, calledOn, imaged, configured, singleCall}
+use Rattle.call_entry.specs.Entered.{onRows, entered}
+use Rattle.single_calls.specs.Single.{Return, refusedAs, overlong, wrongBytes, servedBy, calledOn, imaged, singleCall}
 use Rattle.single_calls.specs.Answers.{holding}
 use Rattle.single_calls.specs.AsCall.{callOf, outcomeValue, returned, as-call}
 use Rattle.single_calls.specs.Place.{placeIn, servedAt, placeLeft, placeUnder, lookupPlace}
@@ -69,24 +70,31 @@ module _ (s : Bytes) (a b : Counts) (m n : ℕ) (q : Keyed) where
   abbrev Alike : (Held → Return) → Type 0
   Alike call = (call (holding s a m) .value ≡ call (holding s b n) .value) × (call (holding s a m) .held .arena ≡ call (holding s b n) .held .arena)
 
-  rows-alike : (p : Setup) (o : Option (ℕ → Row)) → Alike (imaged p o q)
+  rows-alike : (p : Setup) (rows : ℕ → Row) → Alike (imaged p rows q)
   unfolding imaged
-  rows-alike p none = (refl, refl)
-  rows-alike p (some rows) =
+  rows-alike p rows =
       byTest (overlong q) (λ t. rw t (refl, refl))
       (λ t. byTest (wrongBytes q) (λ u. rw (t, u) (refl, refl)) (λ u. rw (t, u) (unfold calledOn answerTo effect lend call-defs ons afterAll after put in (refl, refl))))
 
-  call-alike : (f : CheckedConfig) → Alike (configured f q)
-  unfolding configured
+  -- the call by the outcome of cause 1's test
+  abbrev by : CheckedConfig → Held → Return
+  by f h = entered (λ n. refusedAs n h) (λ g rows. imaged (setupNow g) rows q h) f (h .arena)
+
+  call-alike : (f : CheckedConfig) → Alike (by f)
+  unfolding entered
   call-alike BadConfig = (refl, refl)
-  call-alike (Fine g) = rows-alike (setupNow g) (decode isValue (setupNow g) s)
+  call-alike (Fine g) = go (decode isValue (setupNow g) s)
+    where
+      go : (o : Option (ℕ → Row)) → Alike (λ h. onRows (λ n. refusedAs n h) (λ rows. imaged (setupNow g) rows q h) o)
+      go none = unfold onRows in (refl, refl)
+      go (some rows) = unfold onRows in rows-alike (setupNow g) rows
 
 pub place-alike : (size mode ttl : ℕ) (k c : Bytes) (t e : ℕ) (s : Bytes) (a b : Counts) (m n : ℕ)
     → lookupPlace size mode ttl k c t e (holding s a m) ≡ lookupPlace size mode ttl k c t e (holding s b n)
 unfolding lookupPlace singleCall
 place-alike size mode ttl k c t e s a b m n = go (checked size mode ttl (length s))
   where
-    go : (f : CheckedConfig) → placeUnder f k c (configured f (lookup k c t e) (holding s a m)) ≡ placeUnder f k c (configured f (lookup k c t e) (holding s b n))
+    go : (f : CheckedConfig) → placeUnder f k c (by s a b m n (lookup k c t e) f (holding s a m)) ≡ placeUnder f k c (by s a b m n (lookup k c t e) f (holding s b n))
     go BadConfig = unfold placeUnder in refl
     go (Fine g) =
         let l = call-alike s a b m n (lookup k c t e) (Fine g) in
