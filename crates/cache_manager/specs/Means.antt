@@ -1,7 +1,6 @@
 -- What planning's own answer means: the offset that it returns is the first that is allowed, and what it leaves in the send buffer is a run of RESP3 commands, as many as its response
 -- counts say. Both are about `planCall`, whatever goes in. Assumes nothing.
 use mathlib.Core.Path.{_≡_, refl, sym, ap, _∙_}
-use mathlib.Core.Bool.{cond}
 use mathlib.Core.List.{List}
 use Prim.Native.Nat.{ℕ}
 use native.Mathlib.Omega.{arith}
@@ -25,11 +24,11 @@ use Rattle.arena.specs.Sequence.{Held, bookOf}
 use Rattle.planning.specs.Ask.{anyLate}
 use Rattle.planning.specs.Outcome.{wanted, outcomes}
 use Rattle.planning.specs.Sent.{Responses}
-use Rattle.planning.specs.Planning.{Planned, PlanAnswer, because, done, plannedFrom, short, planAnswer, planOn}
+use Rattle.planning.specs.Planning.{Planned, plannedFrom, short, planAnswer, planOn}
 use Rattle.planning.specs.Run.{SentRun, sent-run}
 use Rattle.sharded_lru.specs.Lent.{setupNow}
 use Rattle.call_entry.specs.Laws.{each-entry}
-use Rattle.cache_manager.specs.Pipeline.{Returned, refusedAs, wrongAt, wrote, Left, refusal, pipelined, recorded, judged, admittedTo, planCall}
+use Rattle.cache_manager.specs.Pipeline.{refusedAs, wrongAt, wrote, Left, refusal, pipelined, judged, admittedTo, planCall}
 
 -- ---- the three kinds of return are three
 

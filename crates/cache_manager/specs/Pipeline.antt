@@ -22,9 +22,8 @@ use Rattle.book.specs.Calls.{afterCall}
 use Rattle.arena.specs.Sequence.{Held, lend, bookOf}
 use Rattle.planning.specs.Sent.{Responses}
 use Rattle.planning.specs.Planning.{PlanAnswer, because, done, planOn, callOf}
-use Rattle.statistics.specs.declared.Statistics.{Statistics}
 use Rattle.sharded_lru.specs.Lent.{setupNow}
-use Rattle.call_entry.specs.Entered.{entered}
+use Rattle.call_entry.specs.Entered.{noCause, entered}
 use Rattle.look_up.specs.Looks.{countsOf}
 use Rattle.cache_manager.specs.declared.Pipelined.{Pipelined}
 use Rattle.cache_manager.specs.declared.Pipelined.the-variants.{Done, BadRecord, Refused}
@@ -44,7 +43,7 @@ pub data Returned : Type 0 where
 unfoldable pub causeOf : Returned → ℕ
 causeOf (refusedAs n) = n
 causeOf (wrongAt o) = badRecord
-causeOf (wrote n m c) = 0
+causeOf (wrote n m c) = noCause
 
 -- with what is left: the two buffers, and what the caller holds
 pub record Left : Type 0 where
@@ -93,10 +92,6 @@ abbrev pub returnedOf : Pipelined → Returned
 returnedOf (Done w) = wrote (w .plan) (w .send) (record { offset = w .offset; count = w .count })
 returnedOf (BadRecord o) = wrongAt o
 returnedOf (Refused n) = refusedAs n
-
--- what the caller holds: arena, counts and next number
-abbrev pub holding : Bytes → Statistics → ℕ → Held
-holding a n next = record { arena = a; counts = countsOf n; next = next }
 
 -- the call returned r and left the arena a, the plan buffer d and the send buffer f, as is said
 pub record Leaves (x : Left) (a d f : Bytes) (r : CachedPipeline) : Type 0 where

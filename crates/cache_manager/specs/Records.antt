@@ -1,10 +1,9 @@
 -- What planning leaves, one law for each path of the code. Assumes nothing.
 use mathlib.Core.Path.{_≡_, refl, sym, ap, ap₂, _∙_}
-use mathlib.Core.Bool.{Bool, true, false, cond, _||_, true≢false}
+use mathlib.Core.Bool.{Bool, true, false, _||_, true≢false}
 use mathlib.Core.Option.{some}
 use mathlib.Core.List.{List}
 use Prim.Native.Nat.{ℕ, _≤_, _<_}
-use native.Mathlib.Omega.{arith}
 use lib.Dec.{ltb}
 use lib.ListN.{length}
 use borrow.Author.Tests.{ltb-false, lt-ltb, le-ltb}
@@ -34,7 +33,8 @@ use Rattle.sharded_lru.specs.declared.Admitted.the-variants.{Refused as NotAdmi
 use Rattle.call_entry.specs.Laws.{is-entered, not-entered}
 use Rattle.look_up.specs.Looks.{countsOf}
 use Rattle.dry_pass.specs.Dry.{Planable}
-use Rattle.cache_manager.specs.Pipeline.{Returned, refusedAs, wrongAt, Left, refusal, recorded, judged, admittedTo, planCall, returnedOf, holding, Leaves}
+use Rattle.call_entry.specs.Entered.{holding}
+use Rattle.cache_manager.specs.Pipeline.{Returned, refusedAs, wrongAt, Left, refusal, recorded, judged, admittedTo, planCall, returnedOf, Leaves}
 use Rattle.cache_manager.specs.Planned.{planBytes, sendBytes, planNow, sendNow, late-refused, short-refused, all-written}
 use Rattle.cache_manager.specs.Passed.{Passed}
 use Rattle.cache_manager.specs.Fit.{Fit, planable}
@@ -43,7 +43,7 @@ use Rattle.cache_manager.specs.declared.CachedPipeline.{CachedPipeline}
 
 -- a refusal leaves everything as it was
 pub leaves-all : (t e : ℕ) (s d f a : Bytes) (counts : Statistics) (next : ℕ) (x : Left) (y : Returned) (r : CachedPipeline)
-    → x ≡ refusal t e s d f (holding a counts next) y → returnedOf (r .answer) ≡ y → r .counts ≡ counts → Leaves x a d f r
+    → x ≡ refusal t e s d f (holding a (countsOf counts) next) y → returnedOf (r .answer) ≡ y → r .counts ≡ counts → Leaves x a d f r
 leaves-all t e s d f a counts next x y r q p c =
     rw q (record { returned = p; arena = refl; counts = ap countsOf c; plan = refl; send = refl })
 
@@ -66,19 +66,19 @@ module _ (t e : ℕ) (s d f a : Bytes) (g : Settings) (k : Commands) (counts : S
   module _ (rows : ℕ → Row) (next : ℕ) (r : CachedPipeline) where
     -- cause 4
     pub record-late : anyLate g t (commandsOf s k) ≡ true → (r .answer ≡ Refused lateExpiry) × (r .counts ≡ counts)
-        → Leaves (recorded t e s d f (holding a counts next) g rows (recordAt s)) a d f r
+        → Leaves (recorded t e s d f (holding a (countsOf counts) next) g rows (recordAt s)) a d f r
     record-late l z =
         leaves-all t e s d f a counts next _ (refusedAs lateExpiry) r
-        (late-refused t e s d f (holding a counts next) g rows (recordAt s) (ap (anyLate g t) commands-are ∙ l)) (ap returnedOf (z .0)) (z .1)
+        (late-refused t e s d f (holding a (countsOf counts) next) g rows (recordAt s) (ap (anyLate g t) commands-are ∙ l)) (ap returnedOf (z .0)) (z .1)
 
     module _ (b : Bool) (p : b ≡ transaction (recordAt s)) (l : anyLate g t (commandsOf s k) ≡ false) where
-      plan-same : planNow t e s d f (holding a counts next) g rows (recordAt s) ≡ planBytes (setupNow g) rows t e g b (commandsOf s k)
+      plan-same : planNow t e s d f (holding a (countsOf counts) next) g rows (recordAt s) ≡ planBytes (setupNow g) rows t e g b (commandsOf s k)
       plan-same = ap₂ (λ (x : Bool) (y : List Command). planBytes (setupNow g) rows t e g x y) (sym p) commands-are
 
-      send-same : sendNow t e s d f (holding a counts next) g rows (recordAt s) ≡ sendBytes (setupNow g) rows t e g b (commandsOf s k)
+      send-same : sendNow t e s d f (holding a (countsOf counts) next) g rows (recordAt s) ≡ sendBytes (setupNow g) rows t e g b (commandsOf s k)
       send-same = ap₂ (λ (x : Bool) (y : List Command). sendBytes (setupNow g) rows t e g x y) (sym p) commands-are
 
-      test-same : (ltb (length d) (length (planNow t e s d f (holding a counts next) g rows (recordAt s))) || ltb (length f) (length (sendNow t e s d f (holding a counts next) g rows (recordAt s))))
+      test-same : (ltb (length d) (length (planNow t e s d f (holding a (countsOf counts) next) g rows (recordAt s))) || ltb (length f) (length (sendNow t e s d f (holding a (countsOf counts) next) g rows (recordAt s))))
           ≡ (ltb (length d) (length (planBytes (setupNow g) rows t e g b (commandsOf s k))) || ltb (length f) (length (sendBytes (setupNow g) rows t e g b (commandsOf s k))))
       test-same = ap₂ (λ (x : Bytes) (y : Bytes). ltb (length d) (length x) || ltb (length f) (length y)) plan-same send-same
 
@@ -87,23 +87,23 @@ module _ (t e : ℕ) (s d f a : Bytes) (g : Settings) (k : Commands) (counts : S
 
       -- cause 5
       pub record-short : (ltb (length d) (length (planBytes (setupNow g) rows t e g b (commandsOf s k))) || ltb (length f) (length (sendBytes (setupNow g) rows t e g b (commandsOf s k)))) ≡ true
-          → (r .answer ≡ Refused shortBuffer) × (r .counts ≡ counts) → Leaves (recorded t e s d f (holding a counts next) g rows (recordAt s)) a d f r
+          → (r .answer ≡ Refused shortBuffer) × (r .counts ≡ counts) → Leaves (recorded t e s d f (holding a (countsOf counts) next) g rows (recordAt s)) a d f r
       record-short x z =
           leaves-all t e s d f a counts next _ (refusedAs shortBuffer) r
-          (short-refused t e s d f (holding a counts next) g rows (recordAt s) late-same (test-same ∙ x)) (ap returnedOf (z .0)) (z .1)
+          (short-refused t e s d f (holding a (countsOf counts) next) g rows (recordAt s) late-same (test-same ∙ x)) (ap returnedOf (z .0)) (z .1)
 
       -- all is written
       pub record-done : (ltb (length d) (length (planBytes (setupNow g) rows t e g b (commandsOf s k))) || ltb (length f) (length (sendBytes (setupNow g) rows t e g b (commandsOf s k)))) ≡ false
-          → (a′ d′ f′ : Bytes) → length a′ ≡ length a → Passed g t e b (commandsOf s k) (bookOf rows (holding a counts next)) d f a′ d′ f′ r
-          → Leaves (recorded t e s d f (holding a counts next) g rows (recordAt s)) a′ d′ f′ r
+          → (a′ d′ f′ : Bytes) → length a′ ≡ length a → Passed g t e b (commandsOf s k) (bookOf rows (holding a (countsOf counts) next)) d f a′ d′ f′ r
+          → Leaves (recorded t e s d f (holding a (countsOf counts) next) g rows (recordAt s)) a′ d′ f′ r
       unfolding lend
       record-done x a′ d′ f′ n z =
-          let y : Passed g t e (transaction (recordAt s)) (recordAt s .commands) (bookOf rows (holding a counts next)) d f a′ d′ f′ r =
+          let y : Passed g t e (transaction (recordAt s)) (recordAt s .commands) (bookOf rows (holding a (countsOf counts) next)) d f a′ d′ f′ r =
           rw (sym p) (rw commands-are z) in
-          rw (all-written t e s d f (holding a counts next) g rows (recordAt s) late-same (test-same ∙ x))
+          rw (all-written t e s d f (holding a (countsOf counts) next) g rows (recordAt s) late-same (test-same ∙ x))
           (record {
             returned = y .returned;
-            arena = sym (y .keeps .rows .image .bytes) ∙ ap (λ (m : ℕ). encode (setupNow g) m (afterAll (setupNow g) (ons (lookups t e (wanted g t (recordAt s .commands)))) (bookOf rows (holding a counts next)) .rows)) n;
+            arena = sym (y .keeps .rows .image .bytes) ∙ ap (λ (m : ℕ). encode (setupNow g) m (afterAll (setupNow g) (ons (lookups t e (wanted g t (recordAt s .commands)))) (bookOf rows (holding a (countsOf counts) next)) .rows)) n;
             counts = y .keeps .counts;
             plan = y .plan;
             send = y .send;

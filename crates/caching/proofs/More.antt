@@ -28,6 +28,7 @@ use Rattle.book.specs.Calls.{Call, single, remaining, eventsOf, isRefused, happ
 use Rattle.book.specs.Counts.{Counted}
 use Rattle.arena.specs.Sequence.{Held, lend, bookOf}
 use Rattle.sharded_lru.specs.Lent.{setupNow}
+use Rattle.call_entry.specs.Entered.{noCause}
 use Rattle.call_entry.specs.Laws.{entered-like}
 use Rattle.resolving.specs.Pushes.{pushed}
 use Rattle.planning.specs.Planning.{PlanAnswer, because, done, planAnswer, planOn, callOf}
@@ -164,7 +165,7 @@ module _ (c : Counts) where
       ≡ moreReturned (cond valid (pushes.pushedOn p rows (resp.decode bytes) h) (singles.refusedAs a h))
   unfolding pushes.pushedOn
   valued-more true p rows bytes h a = λ i. record {
-    cause = singles.noCause;
+    cause = noCause;
     value = none;
     held = lend-more p (length (h .arena))
         (pushed (resp.decode bytes)) rows h i;

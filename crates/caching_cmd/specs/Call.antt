@@ -18,7 +18,7 @@ use Rattle.book.specs.Book.{Setup, Row, Book, Answer}
 use Rattle.book.specs.Calls.{Call, refused, afterCall, replyTo, refusals}
 use Rattle.arena.specs.Sequence.{Held, lend, bookOf}
 use Rattle.sharded_lru.specs.Lent.{setupNow}
-use Rattle.call_entry.specs.Entered.{entered}
+use Rattle.call_entry.specs.Entered.{noCause, entered}
 use Rattle.planning.specs.Plan as nodes
 use Rattle.plan.specs.Decode.{decodePlan}
 use Rattle.plan_commands.specs.Commands.{planRead}
@@ -29,7 +29,7 @@ use Rattle.caching_cmd.specs.declared.ResolveAnswer.the-variants.{Answer
 
 -- 01's number of an answer, 0 where no cause refuses the call; how many bytes the result has; and "the number of stores refused as 11"
 abbrev pub causeOf : ResolveAnswer → ℕ
-causeOf (Answered written stores) = 0
+causeOf (Answered written stores) = noCause
 causeOf (Refused n) = n
 
 abbrev pub writtenOf : ResolveAnswer → ℕ

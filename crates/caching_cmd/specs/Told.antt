@@ -1,6 +1,6 @@
 -- A resolving as a call on the book: what it holds and how many stores it reports as refused are those of the book's call, and what it stores may be stored.
 -- So demand 3's sequences (arena/specs/Sequence.antt) may have resolvings in them. Assumes nothing.
-use mathlib.Core.Path.{_≡_, refl, sym, subst}
+use mathlib.Core.Path.{_≡_, refl, subst}
 use mathlib.Core.Bool.{Bool, true, cond}
 use mathlib.Core.List.{List, [], _∷_}
 use mathlib.Core.Option.{Option, none, some}
@@ -18,7 +18,7 @@ use Rattle.config.specs.declared.CheckedConfig.the-variants.{Fine}
 use Rattle.resp3.specs.Ends.{isValue}
 use Rattle.resp3.specs.Decode as resp
 use Rattle.resp3.specs.Law.{value-law, decode-law}
-use Rattle.book.specs.Book.{Setup, Row, afterAll}
+use Rattle.book.specs.Book.{Row}
 use Rattle.book.specs.Calls.{Storing, Call, refused, stores, ons, eventsOf, afterCall, refusals, call-defs}
 use Rattle.book.specs.Storable.{StorableEvents}
 use Rattle.arena.specs.Decode.{mayStore, decode}

@@ -1,5 +1,5 @@
--- Causes 1 and 9, with which every call on an arena begins, once for every type of return: `refusal` says what a call returns where a cause refuses it, `goesOn` what
--- it returns on the rows that its arena encodes. Assumes nothing: these are definitions.
+-- Causes 1 and 9, with which every call on an arena begins, once for every type of return: `refusal` says what a call returns where a cause refuses
+-- it, `goesOn` what it returns on the rows that its arena encodes; with two words that all calls share. Assumes nothing: these are definitions.
 use Prim.Native.Nat.{ℕ}
 use mathlib.Core.Option.{Option, none, some}
 use Rattle.buffer.specs.Same.{Bytes}
@@ -8,9 +8,18 @@ use Rattle.config.specs.declared.Settings.{Settings}
 use Rattle.config.specs.declared.CheckedConfig.{CheckedConfig}
 use Rattle.config.specs.declared.CheckedConfig.the-variants.{Fine, Refused as BadConfig}
 use Rattle.resp3.specs.Ends.{isValue}
-use Rattle.book.specs.Book.{Row}
+use Rattle.book.specs.Book.{Row, Counts}
 use Rattle.arena.specs.Decode.{decode}
+use Rattle.arena.specs.Sequence.{Held}
 use Rattle.sharded_lru.specs.Lent.{setupNow}
+
+-- the number that says that no cause refuses a call
+abbrev pub noCause : ℕ
+noCause = 0
+
+-- what the caller holds: arena, counts and next number
+abbrev pub holding : Bytes → Counts → ℕ → Held
+holding s c n = record { arena = s; counts = c; next = n }
 
 module _ {R : Type 0} (refusal : ℕ → R) where
   -- 9: the arena encodes no rows

@@ -1,5 +1,5 @@
--- Laws of how calls begin: what holds of each way holds of the call; what `admit` answers decides the way; and a call that is refused leaves what the caller holds.
--- Assumes nothing.
+-- Laws of how calls begin: what holds of each way holds of the call; what `admit` answers decides the way; and a call that is refused leaves what the
+-- caller holds. Assumes nothing.
 use mathlib.Core.Path.{_≡_, refl, sym, ap}
 use mathlib.Core.Bool.{Bool, true, false, cond}
 use mathlib.Core.Option.{Option, none, some}

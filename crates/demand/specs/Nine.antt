@@ -34,9 +34,8 @@ use Rattle.arena.specs.Octets.{EventOctets, arena-octets}
 use Rattle.arena.specs.Sequence.{Held, lend, bookOf}
 use Rattle.arena.specs.Stores.{storing}
 use Rattle.arena.specs.Reach.{building, building-all, singles, not-yet, reached}
-use Rattle.call_entry.specs.Entered.{onRows, entered}
+use Rattle.call_entry.specs.Entered.{noCause, onRows, entered}
 use Rattle.single_calls.specs.Single as one
-use Rattle.single_calls.specs.Single.{noCause}
 use Rattle.single_calls.specs.AsCall.{callOf}
 use Rattle.push.specs.Push as pushes
 use Rattle.cache_manager.specs.Pipeline as plannings

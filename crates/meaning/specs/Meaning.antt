@@ -47,7 +47,7 @@ use Rattle.plan_commands.specs.Commands.{planRead}
 use Rattle.resolving.specs.Resolve.{resolve}
 use Rattle.single_calls.specs.Single.{Return, refusedAs, overlong, calledOn}
 use Rattle.single_calls.specs.Place.{servedAt}
-use Rattle.single_calls.specs.Answers.{holding}
+use Rattle.call_entry.specs.Entered.{holding}
 use Rattle.push.specs.Push.{pushedOn}
 use Rattle.cache_manager.specs.Pipeline as plannings
 use Rattle.cache_manager.specs.Pipeline.{Left, refusal, recorded}

@@ -24,7 +24,7 @@ use Rattle.plan.specs.Law as plans
 use Rattle.plan_commands.specs.Commands.{planRead}
 use Rattle.resolving.specs.Resolve.{resolve}
 use Rattle.single_calls.specs.Single.{Return, refusedAs, singleCall}
-use Rattle.single_calls.specs.Answers.{holding}
+use Rattle.call_entry.specs.Entered.{holding}
 use Rattle.push.specs.Push.{pushedOn}
 use Rattle.cache_manager.specs.Pipeline as plannings
 use Rattle.cache_manager.specs.Pipeline.{Left, refusal, recorded}

@@ -31,8 +31,7 @@ use Rattle.arena.specs.Decode.{decode}
 use Rattle.arena.specs.Place.{arenaPlace}
 use Rattle.arena.specs.Sequence.{Held, lend, bookOf, outcomeOf}
 use Rattle.sharded_lru.specs.Lent.{setupNow}
-use Rattle.single_calls.specs.Answers.{holding}
-use Rattle.call_entry.specs.Entered.{onRows, entered}
+use Rattle.call_entry.specs.Entered.{holding, onRows, entered}
 use Rattle.planning.specs.Plan as nodes
 use Rattle.plan.specs.Decode.{decodePlan}
 use Rattle.plan.specs.Law as plans

@@ -26,11 +26,11 @@ use Rattle.resolving.specs.Pushes.{pushed}
 use Rattle.sharded_lru.specs.Lent.{setupNow}
 use Rattle.sharded_lru.specs.Admit.{admitted, Entered}
 use Rattle.sharded_lru.specs.declared.Admitted.the-variants.{Refused as NotAdmitted}
-use Rattle.call_entry.specs.Entered.{onRows, entered}
+use Rattle.call_entry.specs.Entered.{noCause, holding, onRows, entered}
 use Rattle.call_entry.specs.Laws.{is-entered, not-entered, refused-held}
 use Rattle.single_calls.specs.declared.Answered.the-variants.{Done, Refused}
-use Rattle.single_calls.specs.Single.{noCause, Return, refusedAs}
-use Rattle.single_calls.specs.Answers.{countsOf, holding, InvalidationLeft}
+use Rattle.single_calls.specs.Single.{Return, refusedAs}
+use Rattle.single_calls.specs.Answers.{countsOf, InvalidationLeft}
 use Rattle.single_calls.specs.AnswerLaws.{refused-is}
 use Rattle.push.specs.Push.{callFor, pushedOn, imaged, pushCall}
 use Rattle.push.specs.Kept.{Kept, One}

@@ -15,8 +15,8 @@ use Rattle.book.specs.Calls.{Call, refused, afterCall}
 use Rattle.arena.specs.Sequence.{Held, lend, bookOf}
 use Rattle.resolving.specs.Pushes.{pushed}
 use Rattle.sharded_lru.specs.Lent.{setupNow}
-use Rattle.call_entry.specs.Entered.{entered}
-use Rattle.single_calls.specs.Single.{noCause, Return, refusedAs}
+use Rattle.call_entry.specs.Entered.{noCause, entered}
+use Rattle.single_calls.specs.Single.{Return, refusedAs}
 
 -- the book's call: "Replies, a push and a value given to a single store are each exactly one value with nothing after it, at most 16 MiB."
 unfoldable pub callFor : Bytes → Call

@@ -3,7 +3,7 @@ use mathlib.Core.Path.{_≡_, refl, sym, ap, _∙_, subst}
 use Prim.Native.Nat.{ℕ, _-_}
 use native.Mathlib.Omega.{arith}
 use mathlib.Core.Bool.{Bool, true, false, cond}
-use mathlib.Core.Option.{Option, none, some}
+use mathlib.Core.Option.{none, some}
 use lib.ListN.{length}
 use lib.Dec.{eqb}
 use Rattle.buffer.specs.Same.{Bytes}
@@ -34,10 +34,11 @@ use Rattle.sharded_lru.specs.declared.Admitted.the-variants.{Refused as NotAdmi
 use Rattle.call_entry.specs.Laws.{is-entered, not-entered}
 use Rattle.single_calls.specs.declared.Answered.the-variants.{Done, Refused}
 use Rattle.single_calls.specs.declared.Found.the-variants.{Denied}
-use Rattle.single_calls.specs.Single.{noCause, Return, refusedAs, overlong, wrongBytes, numberOf, servedBy, calledOn, imaged, singleCall}
+use Rattle.call_entry.specs.Entered.{noCause, holding}
+use Rattle.single_calls.specs.Single.{Return, refusedAs, overlong, wrongBytes, numberOf, servedBy, calledOn, imaged, singleCall}
 use Rattle.single_calls.specs.Place.{placeIn, servedAt, placeLeft, placeUnder, lookupPlace}
 use Rattle.single_calls.specs.AnswerLaws.{done-is, refused-is, hit-is, miss-is, denied-is}
-use Rattle.single_calls.specs.Answers.{countsOf, holding, Left, LookupLeft, InvalidationLeft, moreOf, lookedUp}
+use Rattle.single_calls.specs.Answers.{countsOf, Left, LookupLeft, InvalidationLeft, moreOf, lookedUp}
 
 -- ---- causes 1 and 9
 

@@ -23,10 +23,10 @@ use Rattle.arena.specs.Sequence.{Held, Outcome, noImage, denied, said, Result, 
 use Rattle.shard_store.specs.Store.{Storable}
 use Rattle.sharded_lru.specs.Lent.{setupNow}
 use Rattle.sharded_lru.specs.Keeps.{MayStore, may-store}
-use Rattle.call_entry.specs.Entered.{onRows, entered}
+use Rattle.call_entry.specs.Entered.{noCause, onRows, entered}
 use Rattle.call_entry.specs.Laws as entry
 use Rattle.call_entry.specs.Laws.{each-entry}
-use Rattle.single_calls.specs.Single.{noCause, Return, refusedAs, overlongBy, overlong, wrongBytes, numberOf, servedBy, calledOn, imaged, singleCall}
+use Rattle.single_calls.specs.Single.{Return, refusedAs, overlongBy, overlong, wrongBytes, numberOf, servedBy, calledOn, imaged, singleCall}
 
 -- the book's call that the arguments make: one that is refused where 3 or 6 refuses them, since of these the arguments alone decide
 unfoldable pub callOf : Keyed → Call

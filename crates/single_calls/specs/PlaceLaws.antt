@@ -1,10 +1,8 @@
 -- The place of what a single lookup serves, by the book: in the rows after the call where the book's answer is a hit, else the arena's start. And that it depends on
 -- the arena alone of what the caller holds. Assumes that cause 1 lets the settings through.
-use mathlib.Core.Path.{_≡_, refl, sym, ap, ap₂, _∙_}
+use mathlib.Core.Path.{_≡_, refl, ap, ap₂, _∙_}
 use Prim.Native.Nat.{ℕ}
-use mathlib.Core.Bool.{true, false}
 use mathlib.Core.Option.{Option, none, some}
-use mathlib.Core.List.{[], _∷_}
 use lib.ListN.{length}
 use Rattle.buffer.specs.Cases.{byTest}
 use Rattle.buffer.specs.Same.{Bytes}
@@ -15,21 +13,20 @@ use Rattle.config.specs.declared.CheckedConfig.{CheckedConfig}
 use Rattle.config.specs.declared.CheckedConfig.the-variants.{Fine, Refused as BadConfig}
 use Rattle.siphash.specs.Sip.{sipHash13}
 use Rattle.resp3.specs.Ends.{isValue}
-use Rattle.book.specs.Book.{Setup, Row, Book, Counts, Keyed, lookup, keyOf, on, after, afterAll, effect, put, answerTo, answers}
-use Rattle.book.specs.Calls.{Call, single, refused, ons, afterCall, replyTo, call-defs}
+use Rattle.book.specs.Book.{Setup, Row, Book, Counts, Keyed, lookup, keyOf, after, afterAll, effect, put, answerTo, answers}
+use Rattle.book.specs.Calls.{Call, ons, afterCall, replyTo, call-defs}
 use Rattle.book.specs.Trace.{Proper}
 use Rattle.arena.specs.Decode.{decode}
 use Rattle.arena.specs.Tests.{WellFormed}
 use Rattle.arena.specs.Image.{Sized, encoded-length, decode-encode}
 use Rattle.arena.specs.Sizes.{sized, proper}
-use Rattle.arena.specs.Sequence.{Held, Result, outcomeOf, lend, one-call}
+use Rattle.arena.specs.Sequence.{Held, outcomeOf, lend, one-call}
 use Rattle.arena.specs.Place.{arenaPlace}
 use Rattle.sharded_lru.specs.Lent.{setupNow}
 use Rattle.sharded_lru.specs.Laws.{formed-set}
 use Rattle.sharded_lru.specs.Keeps.{fine-effect}
-use Rattle.call_entry.specs.Entered.{onRows, entered}
-use Rattle.single_calls.specs.Single.{Return, refusedAs, overlong, wrongBytes, servedBy, calledOn, imaged, singleCall}
-use Rattle.single_calls.specs.Answers.{holding}
+use Rattle.call_entry.specs.Entered.{holding, onRows, entered}
+use Rattle.single_calls.specs.Single.{Return, refusedAs, overlong, wrongBytes, calledOn, imaged, singleCall}
 use Rattle.single_calls.specs.AsCall.{callOf, outcomeValue, returned, as-call}
 use Rattle.single_calls.specs.Place.{placeIn, servedAt, placeLeft, placeUnder, lookupPlace}
 

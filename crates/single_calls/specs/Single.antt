@@ -15,11 +15,7 @@ use Rattle.book.specs.Book.{Setup, Row, Answer, hit, miss, stored, noSpace as s
 use Rattle.book.specs.Calls.{single, afterCall}
 use Rattle.arena.specs.Sequence.{Held, lend, bookOf}
 use Rattle.sharded_lru.specs.Lent.{setupNow}
-use Rattle.call_entry.specs.Entered.{entered}
-
--- no cause refuses the call
-abbrev pub noCause : ℕ
-noCause = 0
+use Rattle.call_entry.specs.Entered.{noCause, entered}
 
 -- what a single call returns and leaves
 pub record Return : Type 0 where

@@ -17,7 +17,8 @@ ghost use Rattle.sharded_lru.specs.Lent.{setupNow, Lent, Arena};
 ghost use Rattle.single_calls.specs.Setup.{setUp, freshArena};
 ghost use Rattle.single_calls.specs.Single.{overlongBy, imaged, singleCall};
 ghost use Rattle.single_calls.specs.Place.{placeLeft, lookupPlace};
-ghost use Rattle.single_calls.specs.Answers.{countsOf, holding, Left, LookupLeft, InvalidationLeft, moreOf, lookedUp};
+ghost use Rattle.call_entry.specs.Entered.{holding};
+ghost use Rattle.single_calls.specs.Answers.{countsOf, Left, LookupLeft, InvalidationLeft, moreOf, lookedUp};
 
 // What stands for a cause's number where no cause refuses a call.
 pub const NO_CAUSE: u64 = 0;
