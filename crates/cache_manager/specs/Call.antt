@@ -20,15 +20,15 @@ use Rattle.cursor.specs.At.{recordAt}
 use Rattle.resp3.specs.Ends.{isValue}
 use Rattle.book.specs.Book.{Row, afterAll}
 use Rattle.book.specs.Calls.{Call, refused, afterCall, call-defs}
-use Rattle.arena.specs.Layout.{encode}
 use Rattle.arena.specs.Decode.{decode}
-use Rattle.arena.specs.Image.{decode-exact}
 use Rattle.arena.specs.Sequence.{Held, lend, bookOf, callWith, callOn}
 use Rattle.planning.specs.Ask.{anyLate}
 use Rattle.planning.specs.Planning.{callOf}
 use Rattle.planning.specs.Passes as passes
 use Rattle.sharded_lru.specs.Lent.{setupNow}
-use Rattle.cache_manager.specs.Pipeline.{Left, recorded, judged, admittedTo, imaged, configured, planCall}
+use Rattle.call_entry.specs.Entered.{onRows, entered}
+use Rattle.call_entry.specs.Laws.{refused-held}
+use Rattle.cache_manager.specs.Pipeline.{Left, refusedAs, refusal, recorded, judged, admittedTo, planCall}
 use Rattle.cache_manager.specs.Planned.{planNow, sendNow, short-is, late-refused, short-refused, all-written}
 
 -- the book's call: nothing where causes 3 and 2 refuse it, else the record's
@@ -39,11 +39,15 @@ judgedCall g t e s n m (Wrong o) = refused
 unfoldable pub bookCall : Settings → ℕ → ℕ → Bytes → ℕ → ℕ → Call
 bookCall g t e s n m = cond (ltb maxBytes (length s)) refused (judgedCall g t e s n m (checkDef s))
 
-module _ (t e : ℕ) (s d f : Bytes) (h : Held) (g : Settings) (rows : ℕ → Row) (i : encode (setupNow g) (length (h .arena)) rows ≡ h .arena) where
+module _ (t e : ℕ) (s d f : Bytes) (h : Held) (g : Settings) (rows : ℕ → Row) (i : decode isValue (setupNow g) (h .arena) ≡ some rows) where
+  -- a refusal
+  none-held : h ≡ lend (setupNow g) (length (h .arena)) (afterCall (setupNow g) refused (bookOf rows h))
+  none-held = refused-held (setupNow g) rows h i
+
   -- what the caller holds, decoded and encoded again
   held-same : h ≡ lend (setupNow g) (length (h .arena)) (bookOf rows h)
-  unfolding lend
-  held-same = λ j. record { arena = sym i j; counts = h .counts; next = h .next }
+  unfolding call-defs afterAll
+  held-same = none-held
 
   -- a record
   record-held : (r : Record) → recorded t e s d f h g rows r .held
@@ -64,11 +68,6 @@ module _ (t e : ℕ) (s d f : Bytes) (h : Held) (g : Settings) (rows : ℕ → R
       ∙ ap (lend (setupNow g) (length (h .arena)))
       (sym (passes.plans (setupNow g) (bookOf rows h) g t e r (length d) (length f) l (short-is t e s d f h g rows r ∙ x) .leaves))))
 
-  -- a refusal
-  none-held : h ≡ lend (setupNow g) (length (h .arena)) (afterCall (setupNow g) refused (bookOf rows h))
-  unfolding call-defs afterAll
-  none-held = held-same
-
   judged-held : (x : Checked) → judged t e s d f h g rows x .held
       ≡ lend (setupNow g) (length (h .arena)) (afterCall (setupNow g) (judgedCall g t e s (length d) (length f) x) (bookOf rows h))
   unfolding judged judgedCall
@@ -82,13 +81,14 @@ module _ (t e : ℕ) (s d f : Bytes) (h : Held) (g : Settings) (rows : ℕ → R
 
 -- by what the arena decodes to
 held-by : (t e : ℕ) (s d f : Bytes) (h : Held) (g : Settings) (o : Option (ℕ → Row)) → decode isValue (setupNow g) (h .arena) ≡ o
-    → imaged t e s d f h g o .held ≡ callWith (setupNow g) o (bookCall g t e s (length d) (length f)) h .held
-unfolding imaged callWith
+    → onRows (λ n. refusal t e s d f h (refusedAs n)) (admittedTo t e s d f h g) o .held
+    ≡ callWith (setupNow g) o (bookCall g t e s (length d) (length f)) h .held
+unfolding onRows callWith
 held-by t e s d f h g none z = refl
-held-by t e s d f h g (some rows) z = admitted-held t e s d f h g rows (decode-exact isValue (setupNow g) (h .arena) rows z .bytes)
+held-by t e s d f h g (some rows) z = admitted-held t e s d f h g rows z
 
 -- planning leaves what the book's call leaves, decoded and encoded, under all settings that cause 1 lets through
 pub planning-held : (size mode ttl t e : ℕ) (s d f : Bytes) (h : Held) (g : Settings) → checked size mode ttl (length (h .arena)) ≡ Passes g
     → planCall size mode ttl t e s d f h .held ≡ callOn isValue (setupNow g) (bookCall g t e s (length d) (length f)) h .held
-unfolding planCall configured callOn
+unfolding planCall entered callOn
 planning-held size mode ttl t e s d f h g q = rw q (held-by t e s d f h g (decode isValue (setupNow g) (h .arena)) refl)

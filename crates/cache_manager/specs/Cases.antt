@@ -37,14 +37,15 @@ use Rattle.planning.specs.Outcome.{outcome-defs}
 use Rattle.planning.specs.Sent.{sent-defs}
 use Rattle.planning.specs.Plan.{plan-defs}
 use Rattle.planning.specs.Planning.{planning-defs}
-use Rattle.cache_manager.specs.Pipeline.{refusedAs, wrongAt, wrote, causeOf, Left, pipelined, judged, admittedTo, imaged, configured, planCall}
+use Rattle.cache_manager.specs.Pipeline.{refusedAs, wrongAt, wrote, causeOf, Left, pipelined, judged, admittedTo, planCall}
+use Rattle.call_entry.specs.Entered.{onRows, entered}
 
 -- one name that opens the causes up to the record's check, and one that opens the whole call
 unfoldable pub cause-case-defs : Unit {0}
 unfolding
     book-defs call-defs ons lookups le readLe part put head itemHead encEntry encEntries encItem encItems encShard encShards layout.encode readEntry readEntries
     readItem readItems readShard readArena every distinctKeys distinctCommands mayStore itemFits itemFine rowFine rowsFine isImage decode lend setupOf checked
-    refused settingsOf causeOf pipelined judged admittedTo imaged configured planCall
+    refused settingsOf causeOf pipelined judged admittedTo onRows entered planCall
 cause-case-defs = tt
 
 unfoldable pub call-case-defs : Unit {0}

@@ -1,8 +1,6 @@
 -- What planning's own answer means: the offset that it returns is the first that is allowed, and what it leaves in the send buffer is a run of RESP3 commands, as many as its response
 -- counts say. Both are about `planCall`, whatever goes in. Assumes nothing.
 use mathlib.Core.Path.{_≡_, refl, sym, ap, _∙_}
-use mathlib.Core.Bool.{cond}
-use mathlib.Core.Option.{Option, none, some}
 use mathlib.Core.List.{List}
 use Prim.Native.Nat.{ℕ}
 use native.Mathlib.Omega.{arith}
@@ -14,26 +12,23 @@ use Rattle.buffer.specs.Cases.{byTest}
 use Rattle.config.specs.Limits.{maxBytes}
 use Rattle.config.specs.Causes.{badConfig, tooLong, badArena, lateExpiry, shortBuffer}
 use Rattle.config.specs.Config.{checked}
-use Rattle.config.specs.declared.CheckedConfig.{CheckedConfig}
-use Rattle.config.specs.declared.CheckedConfig.the-variants.{Fine as Passed, Refused as BadConfig}
 use Rattle.config.specs.declared.Settings.{Settings}
 use Rattle.call_record.specs.Offset.{FirstAllowed}
 use Rattle.call_record.specs.Check.{checkDef, check-offset}
 use Rattle.call_record.specs.declared.Checked.{Checked}
 use Rattle.call_record.specs.declared.Checked.the-variants.{Fine, Wrong}
 use Rattle.cursor.specs.At.{recordAt}
-use Rattle.resp3.specs.Ends.{isValue}
 use Rattle.book.specs.Book.{Row, Answer, answers}
 use Rattle.book.specs.Calls.{lookups, ons}
-use Rattle.arena.specs.Decode.{decode}
 use Rattle.arena.specs.Sequence.{Held, bookOf}
 use Rattle.planning.specs.Ask.{anyLate}
 use Rattle.planning.specs.Outcome.{wanted, outcomes}
 use Rattle.planning.specs.Sent.{Responses}
-use Rattle.planning.specs.Planning.{Planned, PlanAnswer, because, done, plannedFrom, short, planAnswer, planOn}
+use Rattle.planning.specs.Planning.{Planned, plannedFrom, short, planAnswer, planOn}
 use Rattle.planning.specs.Run.{SentRun, sent-run}
 use Rattle.sharded_lru.specs.Lent.{setupNow}
-use Rattle.cache_manager.specs.Pipeline.{Returned, refusedAs, wrongAt, wrote, Left, refusal, pipelined, recorded, judged, admittedTo, imaged, configured, planCall}
+use Rattle.call_entry.specs.Laws.{each-entry}
+use Rattle.cache_manager.specs.Pipeline.{refusedAs, wrongAt, wrote, Left, refusal, pipelined, judged, admittedTo, planCall}
 
 -- ---- the three kinds of return are three
 
@@ -90,23 +85,15 @@ module _ (t e : ℕ) (s d f : Bytes) (h : Held) where
     unfolding admittedTo
     admitted = byTest (ltb maxBytes (length s)) (λ l. rw l (refused tooLong refl)) (λ l. rw l (on-check (checkDef s) refl))
 
-  on-arena : (g : Settings) (o : Option (ℕ → Row)) → Way (imaged t e s d f h g o)
-  unfolding imaged
-  on-arena g none = refused badArena refl
-  on-arena g (some rows) = admitted g rows
-
-  on-settings : (x : CheckedConfig) → Way (configured t e s d f h x)
-  unfolding configured
-  on-settings BadConfig = refused badConfig refl
-  on-settings (Passed g) = on-arena g (decode isValue (setupNow g) (h .arena))
-
   module _ (size mode ttl : ℕ) where
     abbrev left : Left
     left = planCall size mode ttl t e s d f h
 
     way : Way left
     unfolding planCall
-    way = on-settings (checked size mode ttl (length (h .arena)))
+    way =
+        each-entry (λ n. refusal t e s d f h (refusedAs n)) (admittedTo t e s d f h) Way (checked size mode ttl (length (h .arena))) (h .arena)
+        (refused badConfig refl) (refused badArena refl) (λ g rows p q. admitted g rows)
 
     -- a record that is refused is refused at the first allowed offset
     pub offset-first : (o : ℕ) → left .returned ≡ wrongAt o → FirstAllowed s o

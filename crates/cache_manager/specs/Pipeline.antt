@@ -3,32 +3,27 @@
 -- Letters: g settings, t clock, e epoch, s the call record's bytes, r the call record, d the plan buffer's bytes, f the send buffer's, h what the caller holds.
 use mathlib.Core.Path.{_≡_}
 use mathlib.Core.Bool.{cond}
-use mathlib.Core.Option.{Option, none, some}
 use Prim.Native.Nat.{ℕ}
 use lib.Dec.{ltb}
 use lib.ListN.{length}
 use Rattle.buffer.specs.Same.{Bytes}
 use Rattle.buffer.specs.Part.{put}
 use Rattle.config.specs.Limits.{maxBytes}
-use Rattle.config.specs.Causes.{badConfig, badRecord, tooLong, badArena}
+use Rattle.config.specs.Causes.{badRecord, tooLong}
 use Rattle.config.specs.Config.{checked}
-use Rattle.config.specs.declared.CheckedConfig.{CheckedConfig}
-use Rattle.config.specs.declared.CheckedConfig.the-variants.{Fine as Passed, Refused as BadConfig}
 use Rattle.config.specs.declared.Settings.{Settings}
 use Rattle.call_record.specs.Record.{Record}
 use Rattle.call_record.specs.Check.{checkDef}
 use Rattle.call_record.specs.declared.Checked.{Checked}
 use Rattle.call_record.specs.declared.Checked.the-variants.{Fine, Wrong}
 use Rattle.cursor.specs.At.{recordAt}
-use Rattle.resp3.specs.Ends.{isValue}
 use Rattle.book.specs.Book.{Row}
 use Rattle.book.specs.Calls.{afterCall}
-use Rattle.arena.specs.Decode.{decode}
 use Rattle.arena.specs.Sequence.{Held, lend, bookOf}
 use Rattle.planning.specs.Sent.{Responses}
 use Rattle.planning.specs.Planning.{PlanAnswer, because, done, planOn, callOf}
-use Rattle.statistics.specs.declared.Statistics.{Statistics}
 use Rattle.sharded_lru.specs.Lent.{setupNow}
+use Rattle.call_entry.specs.Entered.{noCause, entered}
 use Rattle.look_up.specs.Looks.{countsOf}
 use Rattle.cache_manager.specs.declared.Pipelined.{Pipelined}
 use Rattle.cache_manager.specs.declared.Pipelined.the-variants.{Done, BadRecord, Refused}
@@ -48,7 +43,7 @@ pub data Returned : Type 0 where
 unfoldable pub causeOf : Returned → ℕ
 causeOf (refusedAs n) = n
 causeOf (wrongAt o) = badRecord
-causeOf (wrote n m c) = 0
+causeOf (wrote n m c) = noCause
 
 -- with what is left: the two buffers, and what the caller holds
 pub record Left : Type 0 where
@@ -86,18 +81,10 @@ module _ (t e : ℕ) (s d f : Bytes) (h : Held) where
   unfoldable pub admittedTo : Settings → (ℕ → Row) → Left
   admittedTo g rows = cond (ltb maxBytes (length s)) (refusal (refusedAs tooLong)) (judged g rows (checkDef s))
 
-  -- causes 1 and 9 come first (rule C12)
-  unfoldable pub imaged : Settings → Option (ℕ → Row) → Left
-  imaged g none = refusal (refusedAs badArena)
-  imaged g (some rows) = admittedTo g rows
-
-  unfoldable pub configured : CheckedConfig → Left
-  configured BadConfig = refusal (refusedAs badConfig)
-  configured (Passed g) = imaged g (decode isValue (setupNow g) (h .arena))
-
--- the whole call: size, mode's number, default TTL, clock, epoch, call record, plan buffer, send buffer, what the caller holds
+-- the whole call, causes 1 and 9 first (rule C12): size, mode's number, default TTL, clock, epoch, call record, plan buffer, send buffer, what the caller holds
 unfoldable pub planCall : ℕ → ℕ → ℕ → ℕ → ℕ → Bytes → Bytes → Bytes → Held → Left
-planCall size mode ttl t e s d f h = configured t e s d f h (checked size mode ttl (length (h .arena)))
+planCall size mode ttl t e s d f h =
+    entered (λ n. refusal t e s d f h (refusedAs n)) (admittedTo t e s d f h) (checked size mode ttl (length (h .arena))) (h .arena)
 
 -- ---- what the code's answer stands for
 
@@ -105,10 +92,6 @@ abbrev pub returnedOf : Pipelined → Returned
 returnedOf (Done w) = wrote (w .plan) (w .send) (record { offset = w .offset; count = w .count })
 returnedOf (BadRecord o) = wrongAt o
 returnedOf (Refused n) = refusedAs n
-
--- what the caller holds: arena, counts and next number
-abbrev pub holding : Bytes → Statistics → ℕ → Held
-holding a n next = record { arena = a; counts = countsOf n; next = next }
 
 -- the call returned r and left the arena a, the plan buffer d and the send buffer f, as is said
 pub record Leaves (x : Left) (a d f : Bytes) (r : CachedPipeline) : Type 0 where

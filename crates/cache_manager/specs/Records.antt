@@ -1,19 +1,17 @@
 -- What planning leaves, one law for each path of the code. Assumes nothing.
 use mathlib.Core.Path.{_≡_, refl, sym, ap, ap₂, _∙_}
-use mathlib.Core.Bool.{Bool, true, false, cond, _||_, true≢false}
+use mathlib.Core.Bool.{Bool, true, false, _||_, true≢false}
 use mathlib.Core.Option.{some}
 use mathlib.Core.List.{List}
 use Prim.Native.Nat.{ℕ, _≤_, _<_}
-use native.Mathlib.Omega.{arith}
 use lib.Dec.{ltb}
 use lib.ListN.{length}
 use borrow.Author.Tests.{ltb-false, lt-ltb, le-ltb}
 use Rattle.buffer.specs.Same.{Bytes}
 use Rattle.config.specs.Limits.{maxBytes, maxCommands}
-use Rattle.config.specs.Causes.{lateExpiry, shortBuffer, tooLong, badArena, badConfig}
+use Rattle.config.specs.Causes.{lateExpiry, shortBuffer, tooLong}
 use Rattle.config.specs.Config.{checked}
-use Rattle.config.specs.declared.CheckedConfig.{CheckedConfig}
-use Rattle.config.specs.declared.CheckedConfig.the-variants.{Fine as Passes, Refused as BadConfig}
+use Rattle.config.specs.declared.CheckedConfig.the-variants.{Fine as Passes}
 use Rattle.config.specs.declared.Settings.{Settings}
 use Rattle.statistics.specs.declared.Statistics.{Statistics}
 use Rattle.call_record.specs.Record.{Command, transaction}
@@ -25,16 +23,18 @@ use Rattle.resp3.specs.Ends.{isValue}
 use Rattle.book.specs.Book.{Row, afterAll}
 use Rattle.book.specs.Calls.{lookups, ons}
 use Rattle.arena.specs.Layout.{encode}
-use Rattle.arena.specs.Decode.{isImage, decode}
+use Rattle.arena.specs.Decode.{decode}
 use Rattle.arena.specs.Sequence.{Held, lend, bookOf}
 use Rattle.planning.specs.Ask.{anyLate}
 use Rattle.planning.specs.Outcome.{wanted}
 use Rattle.sharded_lru.specs.Lent.{setupNow}
-use Rattle.sharded_lru.specs.Admit.{admittedBy, admitted}
-use Rattle.sharded_lru.specs.declared.Admitted.the-variants.{Admits, Refused as NotAdmitted}
+use Rattle.sharded_lru.specs.Admit.{admitted}
+use Rattle.sharded_lru.specs.declared.Admitted.the-variants.{Refused as NotAdmitted}
+use Rattle.call_entry.specs.Laws.{is-entered, not-entered}
 use Rattle.look_up.specs.Looks.{countsOf}
 use Rattle.dry_pass.specs.Dry.{Planable}
-use Rattle.cache_manager.specs.Pipeline.{Returned, refusedAs, wrongAt, Left, refusal, recorded, judged, admittedTo, imaged, configured, planCall, returnedOf, holding, Leaves}
+use Rattle.call_entry.specs.Entered.{holding}
+use Rattle.cache_manager.specs.Pipeline.{Returned, refusedAs, wrongAt, Left, refusal, recorded, judged, admittedTo, planCall, returnedOf, Leaves}
 use Rattle.cache_manager.specs.Planned.{planBytes, sendBytes, planNow, sendNow, late-refused, short-refused, all-written}
 use Rattle.cache_manager.specs.Passed.{Passed}
 use Rattle.cache_manager.specs.Fit.{Fit, planable}
@@ -43,7 +43,7 @@ use Rattle.cache_manager.specs.declared.CachedPipeline.{CachedPipeline}
 
 -- a refusal leaves everything as it was
 pub leaves-all : (t e : ℕ) (s d f a : Bytes) (counts : Statistics) (next : ℕ) (x : Left) (y : Returned) (r : CachedPipeline)
-    → x ≡ refusal t e s d f (holding a counts next) y → returnedOf (r .answer) ≡ y → r .counts ≡ counts → Leaves x a d f r
+    → x ≡ refusal t e s d f (holding a (countsOf counts) next) y → returnedOf (r .answer) ≡ y → r .counts ≡ counts → Leaves x a d f r
 leaves-all t e s d f a counts next x y r q p c =
     rw q (record { returned = p; arena = refl; counts = ap countsOf c; plan = refl; send = refl })
 
@@ -66,19 +66,19 @@ module _ (t e : ℕ) (s d f a : Bytes) (g : Settings) (k : Commands) (counts : S
   module _ (rows : ℕ → Row) (next : ℕ) (r : CachedPipeline) where
     -- cause 4
     pub record-late : anyLate g t (commandsOf s k) ≡ true → (r .answer ≡ Refused lateExpiry) × (r .counts ≡ counts)
-        → Leaves (recorded t e s d f (holding a counts next) g rows (recordAt s)) a d f r
+        → Leaves (recorded t e s d f (holding a (countsOf counts) next) g rows (recordAt s)) a d f r
     record-late l z =
         leaves-all t e s d f a counts next _ (refusedAs lateExpiry) r
-        (late-refused t e s d f (holding a counts next) g rows (recordAt s) (ap (anyLate g t) commands-are ∙ l)) (ap returnedOf (z .0)) (z .1)
+        (late-refused t e s d f (holding a (countsOf counts) next) g rows (recordAt s) (ap (anyLate g t) commands-are ∙ l)) (ap returnedOf (z .0)) (z .1)
 
     module _ (b : Bool) (p : b ≡ transaction (recordAt s)) (l : anyLate g t (commandsOf s k) ≡ false) where
-      plan-same : planNow t e s d f (holding a counts next) g rows (recordAt s) ≡ planBytes (setupNow g) rows t e g b (commandsOf s k)
+      plan-same : planNow t e s d f (holding a (countsOf counts) next) g rows (recordAt s) ≡ planBytes (setupNow g) rows t e g b (commandsOf s k)
       plan-same = ap₂ (λ (x : Bool) (y : List Command). planBytes (setupNow g) rows t e g x y) (sym p) commands-are
 
-      send-same : sendNow t e s d f (holding a counts next) g rows (recordAt s) ≡ sendBytes (setupNow g) rows t e g b (commandsOf s k)
+      send-same : sendNow t e s d f (holding a (countsOf counts) next) g rows (recordAt s) ≡ sendBytes (setupNow g) rows t e g b (commandsOf s k)
       send-same = ap₂ (λ (x : Bool) (y : List Command). sendBytes (setupNow g) rows t e g x y) (sym p) commands-are
 
-      test-same : (ltb (length d) (length (planNow t e s d f (holding a counts next) g rows (recordAt s))) || ltb (length f) (length (sendNow t e s d f (holding a counts next) g rows (recordAt s))))
+      test-same : (ltb (length d) (length (planNow t e s d f (holding a (countsOf counts) next) g rows (recordAt s))) || ltb (length f) (length (sendNow t e s d f (holding a (countsOf counts) next) g rows (recordAt s))))
           ≡ (ltb (length d) (length (planBytes (setupNow g) rows t e g b (commandsOf s k))) || ltb (length f) (length (sendBytes (setupNow g) rows t e g b (commandsOf s k))))
       test-same = ap₂ (λ (x : Bytes) (y : Bytes). ltb (length d) (length x) || ltb (length f) (length y)) plan-same send-same
 
@@ -87,23 +87,23 @@ module _ (t e : ℕ) (s d f a : Bytes) (g : Settings) (k : Commands) (counts : S
 
       -- cause 5
       pub record-short : (ltb (length d) (length (planBytes (setupNow g) rows t e g b (commandsOf s k))) || ltb (length f) (length (sendBytes (setupNow g) rows t e g b (commandsOf s k)))) ≡ true
-          → (r .answer ≡ Refused shortBuffer) × (r .counts ≡ counts) → Leaves (recorded t e s d f (holding a counts next) g rows (recordAt s)) a d f r
+          → (r .answer ≡ Refused shortBuffer) × (r .counts ≡ counts) → Leaves (recorded t e s d f (holding a (countsOf counts) next) g rows (recordAt s)) a d f r
       record-short x z =
           leaves-all t e s d f a counts next _ (refusedAs shortBuffer) r
-          (short-refused t e s d f (holding a counts next) g rows (recordAt s) late-same (test-same ∙ x)) (ap returnedOf (z .0)) (z .1)
+          (short-refused t e s d f (holding a (countsOf counts) next) g rows (recordAt s) late-same (test-same ∙ x)) (ap returnedOf (z .0)) (z .1)
 
       -- all is written
       pub record-done : (ltb (length d) (length (planBytes (setupNow g) rows t e g b (commandsOf s k))) || ltb (length f) (length (sendBytes (setupNow g) rows t e g b (commandsOf s k)))) ≡ false
-          → (a′ d′ f′ : Bytes) → length a′ ≡ length a → Passed g t e b (commandsOf s k) (bookOf rows (holding a counts next)) d f a′ d′ f′ r
-          → Leaves (recorded t e s d f (holding a counts next) g rows (recordAt s)) a′ d′ f′ r
+          → (a′ d′ f′ : Bytes) → length a′ ≡ length a → Passed g t e b (commandsOf s k) (bookOf rows (holding a (countsOf counts) next)) d f a′ d′ f′ r
+          → Leaves (recorded t e s d f (holding a (countsOf counts) next) g rows (recordAt s)) a′ d′ f′ r
       unfolding lend
       record-done x a′ d′ f′ n z =
-          let y : Passed g t e (transaction (recordAt s)) (recordAt s .commands) (bookOf rows (holding a counts next)) d f a′ d′ f′ r =
+          let y : Passed g t e (transaction (recordAt s)) (recordAt s .commands) (bookOf rows (holding a (countsOf counts) next)) d f a′ d′ f′ r =
           rw (sym p) (rw commands-are z) in
-          rw (all-written t e s d f (holding a counts next) g rows (recordAt s) late-same (test-same ∙ x))
+          rw (all-written t e s d f (holding a (countsOf counts) next) g rows (recordAt s) late-same (test-same ∙ x))
           (record {
             returned = y .returned;
-            arena = sym (y .keeps .rows .image .bytes) ∙ ap (λ (m : ℕ). encode (setupNow g) m (afterAll (setupNow g) (ons (lookups t e (wanted g t (recordAt s .commands)))) (bookOf rows (holding a counts next)) .rows)) n;
+            arena = sym (y .keeps .rows .image .bytes) ∙ ap (λ (m : ℕ). encode (setupNow g) m (afterAll (setupNow g) (ons (lookups t e (wanted g t (recordAt s .commands)))) (bookOf rows (holding a (countsOf counts) next)) .rows)) n;
             counts = y .keeps .counts;
             plan = y .plan;
             send = y .send;
@@ -137,20 +137,9 @@ module _ (t e : ℕ) (s d f : Bytes) (h : Held) (g : Settings) (rows : ℕ → R
 module _ (size mode ttl t e : ℕ) (s d f : Bytes) (h : Held) where
   pub call-admitted : (g : Settings) (rows : ℕ → Row) → checked size mode ttl (length (h .arena)) ≡ Passes g → decode isValue (setupNow g) (h .arena) ≡ some rows
       → planCall size mode ttl t e s d f h ≡ admittedTo t e s d f h g rows
-  unfolding planCall configured imaged
-  call-admitted g rows p q = rw (p, q)
-
-  refused-image : (n : ℕ) (g : Settings) (b : Bool) → isImage isValue (setupNow g) (h .arena) ≡ b → cond b (Admits g) (NotAdmitted badArena) ≡ NotAdmitted n
-      → imaged t e s d f h g (decode isValue (setupNow g) (h .arena)) ≡ refusal t e s d f h (refusedAs n)
-  unfolding imaged decode
-  refused-image n g true q y = let u : _≡_ {A = ℕ} 0 1 = cc in absurd (omega arith)
-  refused-image n g false q y = let u : badArena ≡ n = cc in rw q (ap (λ (m : ℕ). refusal t e s d f h (refusedAs m)) u)
-
-  refused-config : (n : ℕ) (x : CheckedConfig) → admittedBy x (h .arena) ≡ NotAdmitted n → configured t e s d f h x ≡ refusal t e s d f h (refusedAs n)
-  unfolding configured
-  refused-config n BadConfig y = let u : badConfig ≡ n = cc in ap (λ (m : ℕ). refusal t e s d f h (refusedAs m)) u
-  refused-config n (Passes g) y = refused-image n g (isImage isValue (setupNow g) (h .arena)) refl y
+  unfolding planCall
+  call-admitted g rows p q = is-entered (λ n. refusal t e s d f h (refusedAs n)) (admittedTo t e s d f h) _ (h .arena) g rows p q
 
   pub call-refused : (n : ℕ) → admitted size mode ttl (h .arena) ≡ NotAdmitted n → planCall size mode ttl t e s d f h ≡ refusal t e s d f h (refusedAs n)
-  unfolding planCall admitted
-  call-refused n z = refused-config n (checked size mode ttl (length (h .arena))) z
+  unfolding planCall
+  call-refused n z = not-entered (λ n. refusal t e s d f h (refusedAs n)) (admittedTo t e s d f h) size mode ttl n (h .arena) z

@@ -21,7 +21,9 @@ ghost use Rattle.look_up.specs.Looks.{Keeps};
 ghost use Rattle.dry_pass.specs.Dry.{Planable};
 ghost use Rattle.call_record.specs.declared.Checked.the-variants.{Fine};
 ghost use Rattle.cache_manager.specs.declared.Pipelined.the-variants.{Refused};
-ghost use Rattle.cache_manager.specs.Pipeline.{planCall, recorded, admittedTo, holding, Leaves};
+ghost use Rattle.look_up.specs.Looks.{countsOf};
+ghost use Rattle.call_entry.specs.Entered.{holding};
+ghost use Rattle.cache_manager.specs.Pipeline.{planCall, recorded, admittedTo, Leaves};
 ghost use Rattle.cache_manager.specs.Planned.{planBytes, sendBytes};
 ghost use Rattle.cache_manager.specs.Passed.{writtenOf, Passed};
 
@@ -155,7 +157,7 @@ fn plan_record(
     counts: Statistics,
 ) -> CachedPipeline
     requires { ⌜ Arena g (now arena) × (length (now bytes) ≤ maxBytes) × (checkDef (now bytes) ≡ Fine) ⌝ }
-    ensures { λ r. ⌜ ((rows : ℕ → Row) (next : ℕ) → Lent g (now (arena .entry)) rows → Leaves (recorded clock epoch (now (bytes .entry)) (now (plan .entry)) (now (send .entry)) (holding (now (arena .entry)) counts next) g rows (recordAt (now (bytes .entry)))) (now (arena .exit)) (now (plan .exit)) (now (send .exit)) r) ⌝ }
+    ensures { λ r. ⌜ ((rows : ℕ → Row) (next : ℕ) → Lent g (now (arena .entry)) rows → Leaves (recorded clock epoch (now (bytes .entry)) (now (plan .entry)) (now (send .entry)) (holding (now (arena .entry)) (countsOf counts) next) g rows (recordAt (now (bytes .entry)))) (now (arena .exit)) (now (plan .exit)) (now (send .exit)) r) ⌝ }
 {
     let k = cursor::commands_of(bytes);
     if ask::any_late(bytes, k, g, clock) {
@@ -193,7 +195,7 @@ fn plan_admitted(
     counts: Statistics,
 ) -> CachedPipeline
     requires { ⌜ Arena g (now arena) ⌝ }
-    ensures { λ r. ⌜ ((rows : ℕ → Row) (next : ℕ) → Lent g (now (arena .entry)) rows → Leaves (admittedTo clock epoch (now (bytes .entry)) (now (plan .entry)) (now (send .entry)) (holding (now (arena .entry)) counts next) g rows) (now (arena .exit)) (now (plan .exit)) (now (send .exit)) r) ⌝ }
+    ensures { λ r. ⌜ ((rows : ℕ → Row) (next : ℕ) → Lent g (now (arena .entry)) rows → Leaves (admittedTo clock epoch (now (bytes .entry)) (now (plan .entry)) (now (send .entry)) (holding (now (arena .entry)) (countsOf counts) next) g rows) (now (arena .exit)) (now (plan .exit)) (now (send .exit)) r) ⌝ }
 {
     if config::MAX_BYTES < bytes.len() {
         return refused(config::TOO_LONG, counts);
@@ -220,7 +222,7 @@ pub fn get_cached_pipeline(
     send: &mut [u8],
     counts: Statistics,
 ) -> CachedPipeline
-    ensures { λ r. ⌜ ((next : ℕ) → Leaves (planCall size mode ttl clock epoch (now (bytes .entry)) (now (plan .entry)) (now (send .entry)) (holding (now (arena .entry)) counts next)) (now (arena .exit)) (now (plan .exit)) (now (send .exit)) r) ⌝ }
+    ensures { λ r. ⌜ ((next : ℕ) → Leaves (planCall size mode ttl clock epoch (now (bytes .entry)) (now (plan .entry)) (now (send .entry)) (holding (now (arena .entry)) (countsOf counts) next)) (now (arena .exit)) (now (plan .exit)) (now (send .exit)) r) ⌝ }
 {
     match sharded_lru::admit(arena, size, mode, ttl) {
         Admitted::Refused(n) => refused(n, counts),

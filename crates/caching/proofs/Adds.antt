@@ -9,7 +9,8 @@ use Rattle.statistics.specs.declared.Statistics.{Statistics}
 use Rattle.single_calls.specs.declared.Invalidated.{Invalidated}
 use Rattle.single_calls.specs.declared.LookedUp.{LookedUp}
 use Rattle.single_calls.specs.Single.{Return}
-use Rattle.single_calls.specs.Answers.{countsOf, holding, LookupLeft, InvalidationLeft}
+use Rattle.call_entry.specs.Entered.{holding}
+use Rattle.single_calls.specs.Answers.{countsOf, LookupLeft, InvalidationLeft}
 use Rattle.cache_manager.specs.declared.CachedPipeline.{CachedPipeline}
 use Rattle.cache_manager.specs.Pipeline.{Left, Leaves, returnedOf}
 use Rattle.caching.specs.declared.Added.{Added}

@@ -3,7 +3,7 @@
 -- Assumes nothing.
 use mathlib.Core.Path.{_≡_, refl, sym, ap, _∙_}
 use mathlib.Core.Bool.{Bool, true, false, cond}
-use mathlib.Core.Option.{Option, none, some}
+use mathlib.Core.Option.{none}
 use mathlib.Core.List.{List, [], _∷_}
 use Prim.Native.Nat.{ℕ, _+_, _^_, _<_}
 use native.Mathlib.Nat.{mod-add-mod, mod-eq-of-lt}
@@ -15,8 +15,6 @@ use Rattle.config.specs.Limits.{maxBytes}
 use Rattle.config.specs.Wrap.{wrap}
 use Rattle.config.specs.Config.{checked}
 use Rattle.config.specs.declared.Settings.{Settings}
-use Rattle.config.specs.declared.CheckedConfig.{CheckedConfig}
-use Rattle.config.specs.declared.CheckedConfig.the-variants.{Fine, Refused}
 use Rattle.call_record.specs.Record.{Record}
 use Rattle.call_record.specs.Check.{checkDef}
 use Rattle.call_record.specs.declared.Checked.{Checked}
@@ -28,9 +26,10 @@ use Rattle.book.specs.Book.{Setup, Row, Counts, Book, Answer, Event, on, invali
 use Rattle.book.specs.Book.{count, effect, put, after, answerTo, afterAll, answers}
 use Rattle.book.specs.Calls.{Call, single, remaining, eventsOf, isRefused, happening, afterCall}
 use Rattle.book.specs.Counts.{Counted}
-use Rattle.arena.specs.Decode.{decode}
 use Rattle.arena.specs.Sequence.{Held, lend, bookOf}
 use Rattle.sharded_lru.specs.Lent.{setupNow}
+use Rattle.call_entry.specs.Entered.{noCause}
+use Rattle.call_entry.specs.Laws.{entered-like}
 use Rattle.resolving.specs.Pushes.{pushed}
 use Rattle.planning.specs.Planning.{PlanAnswer, because, done, planAnswer, planOn, callOf}
 use Rattle.single_calls.specs.Single as singles
@@ -148,19 +147,16 @@ module _ (c : Counts) where
   passed-more false true p rows q h a b = refl
   passed-more false false p rows q h a b = called-more p rows q h
 
-  imaged-more : (p : Setup) (rows : Option (ℕ → Row)) (q : Keyed) (h : Held) → singles.imaged p rows q (moreHeld h) ≡ moreReturned (singles.imaged p rows q h)
+  imaged-more : (p : Setup) (rows : ℕ → Row) (q : Keyed) (h : Held) → singles.imaged p rows q (moreHeld h) ≡ moreReturned (singles.imaged p rows q h)
   unfolding singles.imaged
-  imaged-more p none q h = refl
-  imaged-more p (some rows) q h = passed-more (singles.overlong q) (singles.wrongBytes q) p rows q h _ _
-
-  configured-more : (g : CheckedConfig) (q : Keyed) (h : Held) → singles.configured g q (moreHeld h) ≡ moreReturned (singles.configured g q h)
-  unfolding singles.configured
-  configured-more Refused q h = refl
-  configured-more (Fine g) q h = imaged-more (setupNow g) (decode isValue (setupNow g) (h .arena)) q h
+  imaged-more p rows q h = passed-more (singles.overlong q) (singles.wrongBytes q) p rows q h _ _
 
   pub single-more : (size mode ttl : ℕ) (q : Keyed) (h : Held) → singleCall size mode ttl q (moreHeld h) ≡ moreReturned (singleCall size mode ttl q h)
   unfolding singleCall
-  single-more size mode ttl q h = configured-more (checked size mode ttl (length (h .arena))) q h
+  single-more size mode ttl q h =
+      entered-like moreReturned (λ n. singles.refusedAs n h) (λ g rows. singles.imaged (setupNow g) rows q h) (λ n. singles.refusedAs n (moreHeld h))
+      (λ g rows. singles.imaged (setupNow g) rows q (moreHeld h)) (λ n. refl) (λ g rows. imaged-more (setupNow g) rows q h)
+      (checked size mode ttl (length (h .arena))) (h .arena)
 
   -- ---- a push
 
@@ -169,27 +165,24 @@ module _ (c : Counts) where
       ≡ moreReturned (cond valid (pushes.pushedOn p rows (resp.decode bytes) h) (singles.refusedAs a h))
   unfolding pushes.pushedOn
   valued-more true p rows bytes h a = λ i. record {
-    cause = singles.noCause;
+    cause = noCause;
     value = none;
     held = lend-more p (length (h .arena))
         (pushed (resp.decode bytes)) rows h i;
   }
   valued-more false p rows bytes h a = refl
 
-  push-imaged-more : (p : Setup) (rows : Option (ℕ → Row)) (bytes : Bytes) (h : Held)
+  push-imaged-more : (p : Setup) (rows : ℕ → Row) (bytes : Bytes) (h : Held)
       → pushes.imaged p rows bytes (moreHeld h) ≡ moreReturned (pushes.imaged p rows bytes h)
   unfolding pushes.imaged
-  push-imaged-more p none bytes h = refl
-  push-imaged-more p (some rows) bytes h = valued-more (isValue bytes) p rows bytes h _
-
-  push-configured-more : (g : CheckedConfig) (bytes : Bytes) (h : Held) → pushes.configured g bytes (moreHeld h) ≡ moreReturned (pushes.configured g bytes h)
-  unfolding pushes.configured
-  push-configured-more Refused bytes h = refl
-  push-configured-more (Fine g) bytes h = push-imaged-more (setupNow g) (decode isValue (setupNow g) (h .arena)) bytes h
+  push-imaged-more p rows bytes h = valued-more (isValue bytes) p rows bytes h _
 
   pub push-more : (size mode ttl : ℕ) (bytes : Bytes) (h : Held) → pushCall size mode ttl bytes (moreHeld h) ≡ moreReturned (pushCall size mode ttl bytes h)
   unfolding pushCall
-  push-more size mode ttl bytes h = push-configured-more (checked size mode ttl (length (h .arena))) bytes h
+  push-more size mode ttl bytes h =
+      entered-like moreReturned (λ n. singles.refusedAs n h) (λ g rows. pushes.imaged (setupNow g) rows bytes h) (λ n. singles.refusedAs n (moreHeld h))
+      (λ g rows. pushes.imaged (setupNow g) rows bytes (moreHeld h)) (λ n. refl) (λ g rows. push-imaged-more (setupNow g) rows bytes h)
+      (checked size mode ttl (length (h .arena))) (h .arena)
 
   -- ---- a planning
 
@@ -229,17 +222,14 @@ module _ (c : Counts) where
     short-more true g rows x = refl
     short-more false g rows x = judged-more g rows (checkDef s)
 
-    plan-imaged-more : (g : Settings) (rows : Option (ℕ → Row)) → plans.imaged t e s d f (moreHeld h) g rows ≡ moreLeft (plans.imaged t e s d f h g rows)
-    unfolding plans.imaged plans.admittedTo
-    plan-imaged-more g none = refl
-    plan-imaged-more g (some rows) = short-more (ltb maxBytes (length s)) g rows _
-
-    plan-configured-more : (g : CheckedConfig) → plans.configured t e s d f (moreHeld h) g ≡ moreLeft (plans.configured t e s d f h g)
-    unfolding plans.configured
-    plan-configured-more Refused = refl
-    plan-configured-more (Fine g) = plan-imaged-more g (decode isValue (setupNow g) (h .arena))
+    admitted-more : (g : Settings) (rows : ℕ → Row) → plans.admittedTo t e s d f (moreHeld h) g rows ≡ moreLeft (plans.admittedTo t e s d f h g rows)
+    unfolding plans.admittedTo
+    admitted-more g rows = short-more (ltb maxBytes (length s)) g rows _
 
   pub plan-more : (size mode ttl t e : ℕ) (s d f : Bytes) (h : Held)
       → planCall size mode ttl t e s d f (moreHeld h) ≡ moreLeft (planCall size mode ttl t e s d f h)
   unfolding planCall
-  plan-more size mode ttl t e s d f h = plan-configured-more t e s d f h (checked size mode ttl (length (h .arena)))
+  plan-more size mode ttl t e s d f h =
+      entered-like moreLeft (λ n. plans.refusal t e s d f h (plans.refusedAs n)) (plans.admittedTo t e s d f h)
+      (λ n. plans.refusal t e s d f (moreHeld h) (plans.refusedAs n)) (plans.admittedTo t e s d f (moreHeld h)) (λ n. refl) (admitted-more t e s d f h)
+      (checked size mode ttl (length (h .arena))) (h .arena)

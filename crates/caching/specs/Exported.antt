@@ -6,8 +6,8 @@ use mathlib.Core.Option.{Option, none, some}
 use Rattle.buffer.specs.Same.{Bytes}
 use Rattle.buffer.specs.Part.{part}
 use Rattle.book.specs.Book.{Counts, lookup, store, invalidate}
-use Rattle.single_calls.specs.Single.{noCause, Return, singleCall}
-use Rattle.single_calls.specs.Answers.{holding}
+use Rattle.call_entry.specs.Entered.{noCause, holding}
+use Rattle.single_calls.specs.Single.{Return, singleCall}
 use Rattle.single_calls.specs.declared.NewCache.{NewCache}
 use Rattle.single_calls.specs.declared.NewCache.the-variants.{Fresh, Refused as NotSetUp}
 use Rattle.single_calls.specs.declared.Found.{Found}

@@ -3,7 +3,7 @@ use Prim.Native.Nat.{ℕ}
 use Rattle.buffer.specs.Same.{Bytes}
 use Rattle.book.specs.Book.{Counts}
 use Rattle.single_calls.specs.Place.{lookupPlace}
-use Rattle.single_calls.specs.Answers.{holding}
+use Rattle.call_entry.specs.Entered.{holding}
 
 -- for a caller who holds the arena s; counts and next number may be any, they do not move it
 abbrev pub placeBy : ℕ → ℕ → ℕ → ℕ → ℕ → Bytes → Bytes → Bytes → Counts → ℕ → ℕ

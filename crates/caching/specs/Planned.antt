@@ -5,7 +5,8 @@ use Rattle.buffer.specs.Same.{Bytes}
 use Rattle.book.specs.Book.{Counts}
 use Rattle.statistics.specs.declared.Statistics.{Statistics}
 use Rattle.statistics.specs.Counts.{more}
-use Rattle.single_calls.specs.Answers.{countsOf, holding}
+use Rattle.call_entry.specs.Entered.{holding}
+use Rattle.single_calls.specs.Answers.{countsOf}
 use Rattle.cache_manager.specs.Pipeline.{Returned, refusedAs, wrongAt, wrote, causeOf, Left, planCall}
 use Rattle.caching.specs.declared.plan_call.RedisCachePlan.{RedisCachePlan}
 use Rattle.caching.specs.declared.plan_call.PlanAdded.{PlanAdded}

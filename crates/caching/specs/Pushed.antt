@@ -3,7 +3,7 @@ use Prim.Native.Nat.{ℕ}
 use Rattle.buffer.specs.Same.{Bytes}
 use Rattle.book.specs.Book.{Counts}
 use Rattle.single_calls.specs.Single.{Return}
-use Rattle.single_calls.specs.Answers.{holding}
+use Rattle.call_entry.specs.Entered.{holding}
 use Rattle.push.specs.Push.{pushCall}
 
 -- the push of these bytes, by a caller who holds the arena s and these counts; the next number, which it is not given, may be any

@@ -2,7 +2,7 @@
 use Prim.Native.Nat.{ℕ}
 use Rattle.buffer.specs.Same.{Bytes}
 use Rattle.book.specs.Book.{Counts}
-use Rattle.single_calls.specs.Answers.{holding}
+use Rattle.call_entry.specs.Entered.{holding}
 use Rattle.caching_cmd.specs.declared.ResolveAnswer.{ResolveAnswer}
 use Rattle.caching_cmd.specs.Call.{ResolveReturn, causeOf, writtenOf, storesOf, resolveCall}
 use Rattle.caching.specs.declared.resolve_call.RedisCacheResolve.{RedisCacheResolve}

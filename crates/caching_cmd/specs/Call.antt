@@ -9,18 +9,16 @@ use lib.Dec.{leb}
 use lib.ListN.{length, replicate}
 use Rattle.buffer.specs.Same.{Bytes}
 use Rattle.buffer.specs.Part.{put}
-use Rattle.config.specs.Causes.{badConfig, badReply, badShape, shortAnswer, badArena, badPlan}
+use Rattle.config.specs.Causes.{badReply, badShape, shortAnswer, badPlan}
 use Rattle.config.specs.Config.{checked}
 use Rattle.config.specs.declared.Settings.{Settings}
-use Rattle.config.specs.declared.CheckedConfig.{CheckedConfig}
-use Rattle.config.specs.declared.CheckedConfig.the-variants.{Fine, Refused as BadConfig}
 use Rattle.resp3.specs.Ends.{isValue}
 use Rattle.resp3.specs.Decode as resp
 use Rattle.book.specs.Book.{Setup, Row, Book, Answer}
 use Rattle.book.specs.Calls.{Call, refused, afterCall, replyTo, refusals}
-use Rattle.arena.specs.Decode.{decode}
 use Rattle.arena.specs.Sequence.{Held, lend, bookOf}
 use Rattle.sharded_lru.specs.Lent.{setupNow}
+use Rattle.call_entry.specs.Entered.{noCause, entered}
 use Rattle.planning.specs.Plan as nodes
 use Rattle.plan.specs.Decode.{decodePlan}
 use Rattle.plan_commands.specs.Commands.{planRead}
@@ -31,7 +29,7 @@ use Rattle.caching_cmd.specs.declared.ResolveAnswer.the-variants.{Answer
 
 -- the number of the cause that refuses the call, 0 for none; how many bytes the result has; and how many stores found no space (rule S11)
 abbrev pub causeOf : ResolveAnswer → ℕ
-causeOf (Answered written stores) = 0
+causeOf (Answered written stores) = noCause
 causeOf (Refused n) = n
 
 abbrev pub writtenOf : ResolveAnswer → ℕ
@@ -102,17 +100,11 @@ planned g rows (some p) replies clock epoch buffer h =
     (resolvedOn (setupNow g) rows (p .transaction) epoch (resolve (planRead p) (g .mode) clock (resp.decode replies)) buffer h)
     (refusedAs badReply buffer h)
 
-unfoldable pub imaged : Settings → Option (ℕ → Row) → Bytes → Bytes → ℕ → ℕ → Bytes → Held → ResolveReturn
-imaged g none plan replies clock epoch buffer h = refusedAs badArena buffer h
-imaged g (some rows) plan replies clock epoch buffer h = planned g rows (decodePlan plan) replies clock epoch buffer h
-
-unfoldable pub configured : CheckedConfig → Bytes → Bytes → ℕ → ℕ → Bytes → Held → ResolveReturn
-configured BadConfig plan replies clock epoch buffer h = refusedAs badConfig buffer h
-configured (Fine g) plan replies clock epoch buffer h = imaged g (decode isValue (setupNow g) (h .arena)) plan replies clock epoch buffer h
-
 -- the whole call: size, mode's number, default TTL; plan, replies, clock, epoch; the answer buffer; what the caller holds
 unfoldable pub resolveCall : ℕ → ℕ → ℕ → Bytes → Bytes → ℕ → ℕ → Bytes → Held → ResolveReturn
-resolveCall size mode ttl plan replies clock epoch buffer h = configured (checked size mode ttl (length (h .arena))) plan replies clock epoch buffer h
+resolveCall size mode ttl plan replies clock epoch buffer h =
+    entered (λ n. refusedAs n buffer h) (λ g rows. planned g rows (decodePlan plan) replies clock epoch buffer h) (checked size mode ttl (length (h .arena)))
+    (h .arena)
 
 -- an answer, an arena and a buffer are what comes out; a resolving takes no counts and no next number
 abbrev pub Comes : ResolveReturn → ResolveAnswer → Bytes → Bytes → Type 0

@@ -31,7 +31,8 @@ use Rattle.plan_commands.specs.Commands.{valueAt, placeAt, valuesAt, placesAt, 
 use Rattle.resolving.specs.Resolve.{resolve}
 use Rattle.resolving.specs.Result.{resultBytes}
 use Rattle.caching_cmd.specs.declared.ResolveAnswer.the-variants.{Answered, Refused}
-use Rattle.caching_cmd.specs.Call.{ResolveReturn, returning, fits, toldTo, refusedOf, answerOf, bufferAfter, resolvedOn, planned, imaged, configured, resolveCall}
+use Rattle.caching_cmd.specs.Call.{ResolveReturn, returning, fits, toldTo, refusedOf, answerOf, bufferAfter, resolvedOn, planned, resolveCall}
+use Rattle.call_entry.specs.Entered.{onRows, entered}
 
 -- one name that opens the whole call
 unfoldable pub case-defs : Unit {0}
@@ -41,7 +42,7 @@ unfolding
     checked refused settingsOf digits crlfB endedDef finDef numDef kindOf plainB encode lengthAt crlfEnd plain lineEnd blobEnd verbatimEnd numberEnd booleanEnd
     iter bodyHead headAt valueEnd isValue resp.bytesAt resp.lineAt resp.integerAt resp.valuesAt resp.bodyOf resp.iterOf resp.valueOf resp.decode rotated sipRound rounds initial compressed absorbed lastWord finished
     sipHash plan-defs order-defs decode-defs valueAt placeAt valuesAt placesAt commandsOf planRead resolve resultBytes fits toldTo refusedOf answerOf bufferAfter
-    resolvedOn planned imaged configured resolveCall
+    resolvedOn planned onRows entered resolveCall
 case-defs = tt
 
 -- a fresh cache of n bytes

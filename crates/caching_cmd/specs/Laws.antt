@@ -10,13 +10,10 @@ use lib.ListN.{length, drop, length-append}
 use Rattle.buffer.specs.Same.{Bytes}
 use Rattle.buffer.specs.Field.{le32, length-le}
 use Rattle.buffer.specs.Part.{part, part-at, part-all, length-part}
-use Rattle.config.specs.Causes.{badConfig, badArena, badPlan, badReply}
-use Rattle.config.specs.Config.{checked}
+use Rattle.config.specs.Causes.{badPlan, badReply}
 use Rattle.config.specs.Limits.{maxBytes}
 use Rattle.config.specs.declared.CacheMode.{CacheMode}
 use Rattle.config.specs.declared.Settings.{Settings}
-use Rattle.config.specs.declared.CheckedConfig.{CheckedConfig}
-use Rattle.config.specs.declared.CheckedConfig.the-variants.{Fine, Refused as BadConfig}
 use Rattle.format.specs.Runs.{encAll}
 use Rattle.resp3.specs.Value.{Value, Values, null, none, more, encode, Means}
 use Rattle.resp3.specs.Ends.{isValue}
@@ -27,12 +24,14 @@ use Rattle.resp3_element.specs.declared.Elements.{Elements}
 use Rattle.resp3_element.specs.declared.Elements.the-variants.{Of, No as NoElements}
 use Rattle.resp3_element.specs.Meaning.{arrayOf, Inside, Stands, Holds}
 use Rattle.book.specs.Book.{Row}
-use Rattle.arena.specs.Decode.{readArena, isImage, decode}
+use Rattle.arena.specs.Decode.{readArena}
 use Rattle.arena.specs.Layout as layout
 use Rattle.arena.specs.Sequence.{Held, lend, bookOf}
 use Rattle.sharded_lru.specs.declared.Admitted.the-variants.{Admits, Refused as NotAdmitted}
 use Rattle.sharded_lru.specs.Lent.{setupNow, Lent}
-use Rattle.sharded_lru.specs.Admit.{admittedBy, admitted, admits}
+use Rattle.sharded_lru.specs.Admit.{admitted, admits}
+use Rattle.call_entry.specs.Entered.{onRows, entered}
+use Rattle.call_entry.specs.Laws.{not-entered}
 use Rattle.planning.specs.Plan.{encNode, encPlan}
 use Rattle.planning.specs.Rules.{GoodPlan}
 use Rattle.plan.specs.Decode.{readPlan, isPlan, decodePlan}
@@ -48,7 +47,7 @@ use Rattle.caching_cmd.specs.declared.ResolveAnswer.the-variants.{Refuse
 use Rattle.caching_cmd.specs.declared.Found.{Found}
 use Rattle.caching_cmd.specs.declared.Found.the-variants.{At, No}
 use Rattle.book.specs.Calls.{afterCall}
-use Rattle.caching_cmd.specs.Call.{causeOf, writtenOf, storesOf, toldTo, refusedAs, resolvedOn, planned, imaged, configured, resolveCall, Comes}
+use Rattle.caching_cmd.specs.Call.{causeOf, writtenOf, storesOf, toldTo, refusedAs, resolvedOn, planned, resolveCall, Comes}
 use Rattle.caching_cmd.specs.Parts.{FoundIs, Finds, startAt, Listed, Judged, AdmittedResolved}
 use Rattle.caching_cmd.specs.Settle.{Many}
 
@@ -258,28 +257,17 @@ module _ (g : Settings) (rows : ℕ → Row) (plan replies : Bytes) (clock epoch
 -- ---- causes 1 and 9
 
 module _ (size mode ttl : ℕ) (plan replies : Bytes) (clock epoch : ℕ) (buffer : Bytes) (h : Held) where
-  not-admitted : (n : ℕ) → admitted size mode ttl (h .arena) ≡ NotAdmitted n
-      → resolveCall size mode ttl plan replies clock epoch buffer h ≡ refusedAs n buffer h
-  unfolding admitted resolveCall configured imaged decode
-  not-admitted n = go (checked size mode ttl (length (h .arena)))
-    where
-      image : (g : Settings) (b : Bool) → isImage isValue (setupNow g) (h .arena) ≡ b → cond b (Admits g) (NotAdmitted badArena) ≡ NotAdmitted n
-          → imaged g (cond b (some (readArena (setupNow g) (h .arena))) option.none) plan replies clock epoch buffer h ≡ refusedAs n buffer h
-      image g true e q = absurd (let z : _≡_ {A = ℕ} 0 1 = cc in omega arith)
-      image g false e q = ap (λ (i : ℕ). refusedAs i buffer h) (let k : badArena ≡ n = cc in k)
-
-      go : (c : CheckedConfig) → admittedBy c (h .arena) ≡ NotAdmitted n → configured c plan replies clock epoch buffer h ≡ refusedAs n buffer h
-      go BadConfig q = ap (λ (i : ℕ). refusedAs i buffer h) (let k : badConfig ≡ n = cc in k)
-      go (Fine g) q = image g (isImage isValue (setupNow g) (h .arena)) refl q
-
   pub refused-comes : (n : ℕ) → admitted size mode ttl (h .arena) ≡ NotAdmitted n
       → Comes (resolveCall size mode ttl plan replies clock epoch buffer h) (Refused n) (h .arena) buffer
-  refused-comes n e = rw (not-admitted n e) (refl, refl, refl, refl, refl)
+  unfolding resolveCall
+  refused-comes n e =
+      rw (not-entered (λ n. refusedAs n buffer h) (λ g rows. planned g rows (decodePlan plan) replies clock epoch buffer h) size mode ttl n (h .arena) e)
+      (refl, refl, refl, refl, refl)
 
   pub admitted-comes : (g : Settings) (new after : Bytes) (r : ResolveAnswer) → admitted size mode ttl (h .arena) ≡ Admits g
       → AdmittedResolved g epoch plan replies clock (h .arena) new buffer after r
       → Comes (resolveCall size mode ttl plan replies clock epoch buffer h) r new after
-  unfolding resolveCall configured imaged
+  unfolding resolveCall entered onRows
   admitted-comes g new after r e f =
       let w = admits size mode ttl (h .arena) g e in
       rw (w .fine, w .read) (f h (readArena (setupNow g) (h .arena)) refl (w .lent))

@@ -43,6 +43,10 @@ begins plan list first c e ok l =
       starts = rw e (starts plan list first (l .rs) (plan-read plan ok) (l .stands) (l .small));
     }
 
+-- what is left of the buffer behind the head
+pub room-left : (n h k : ℕ) (room : Room) → room ≡ spent (wholeRoom n) h → h ≡ k → room ≡ spent (wholeRoom n) k
+room-left n h k room e q = e ∙ ap (spent (wholeRoom n)) q
+
 -- where all fits, the answer pass has room
 pub fine-all : (plan list : Bytes) (c : Walk) (mode : CacheMode) (clock n h : ℕ) (room : Room) (d : Dry) → room ≡ spent (wholeRoom n) h → DryIs plan list c mode clock room d → d ≡ Fits
     → Fine plan list c mode clock h n

@@ -1,6 +1,6 @@
 -- A resolving as a call on the book: what it holds and how many stores it reports as refused are those of the book's call, and what it stores may be stored.
 -- So demand 3's sequences (arena/specs/Sequence.antt) may have resolvings in them. Assumes nothing.
-use mathlib.Core.Path.{_≡_, refl, sym, subst}
+use mathlib.Core.Path.{_≡_, refl, subst}
 use mathlib.Core.Bool.{Bool, true, cond}
 use mathlib.Core.List.{List, [], _∷_}
 use mathlib.Core.Option.{Option, none, some}
@@ -18,14 +18,15 @@ use Rattle.config.specs.declared.CheckedConfig.the-variants.{Fine}
 use Rattle.resp3.specs.Ends.{isValue}
 use Rattle.resp3.specs.Decode as resp
 use Rattle.resp3.specs.Law.{value-law, decode-law}
-use Rattle.book.specs.Book.{Setup, Row, afterAll}
+use Rattle.book.specs.Book.{Row}
 use Rattle.book.specs.Calls.{Storing, Call, refused, stores, ons, eventsOf, afterCall, refusals, call-defs}
 use Rattle.book.specs.Storable.{StorableEvents}
 use Rattle.arena.specs.Decode.{mayStore, decode}
 use Rattle.arena.specs.Tests.{yes-every}
-use Rattle.arena.specs.Image.{decode-exact}
 use Rattle.arena.specs.Sequence.{Held, Outcome, noImage, denied, said, outcomeOf, lend, bookOf, callWith, callOn}
 use Rattle.sharded_lru.specs.Lent.{setupNow}
+use Rattle.call_entry.specs.Entered.{onRows, entered}
+use Rattle.call_entry.specs.Laws.{refused-held}
 use Rattle.planning.specs.Plan as nodes
 use Rattle.plan.specs.Decode.{decodePlan}
 use Rattle.plan.specs.Law as planLaws
@@ -34,7 +35,7 @@ use Rattle.plan_commands.specs.Laws.{plan-within}
 use Rattle.resolving.specs.Resolve.{Resolved, cause7, answered, resolve}
 use Rattle.resolving.specs.Result.{resultBytes}
 use Rattle.resolving.specs.Kept.{Sent, AllStorable, Kept, resolved-kept}
-use Rattle.caching_cmd.specs.Call.{storesOf, fits, toldTo, refusedOf, answerOf, resolvedOn, planned, imaged, configured, resolveCall}
+use Rattle.caching_cmd.specs.Call.{ResolveReturn, storesOf, refusedAs, fits, toldTo, refusedOf, answerOf, resolvedOn, planned, resolveCall}
 
 -- ---- the call that the book is told, causes 1 and 9 aside
 
@@ -51,13 +52,6 @@ refusedBy (said xs) = refusals xs
 
 -- ---- what the caller holds
 
--- a call that is refused leaves what the caller holds
-refused-held : (p : Setup) (rows : ℕ → Row) (h : Held) → decode isValue p (h .arena) ≡ some rows → h ≡ lend p (length (h .arena)) (afterCall p refused (bookOf rows h))
-unfolding lend call-defs afterAll
-refused-held p rows h e =
-    let q = decode-exact isValue p (h .arena) rows e .bytes in
-    λ i. record { arena = sym q i; counts = h .counts; next = h .next }
-
 module _ (g : Settings) (plan replies : Bytes) (clock epoch : ℕ) (buffer : Bytes) (h : Held) where
   abbrev call : Option nodes.Plan → Call
   call o = toldBy (g .mode) o replies clock epoch (length buffer)
@@ -68,11 +62,14 @@ module _ (g : Settings) (plan replies : Bytes) (clock epoch : ℕ) (buffer : Byt
   planned-held rows e none = refused-held (setupNow g) rows h e
   planned-held rows e (some p) = byTest (isValue replies) (λ t. rw t) (λ t. rw t (refused-held (setupNow g) rows h e))
 
-  imaged-held : (o : Option (ℕ → Row)) → decode isValue (setupNow g) (h .arena) ≡ o
-      → imaged g o plan replies clock epoch buffer h .held ≡ callWith (setupNow g) o (call (decodePlan plan)) h .held
-  unfolding imaged callWith
-  imaged-held none e = refl
-  imaged-held (some rows) e = planned-held rows e (decodePlan plan)
+  -- the call on what the arena is read as
+  abbrev onArena : Option (ℕ → Row) → ResolveReturn
+  onArena o = onRows (λ n. refusedAs n buffer h) (λ rows. planned g rows (decodePlan plan) replies clock epoch buffer h) o
+
+  arena-held : (o : Option (ℕ → Row)) → decode isValue (setupNow g) (h .arena) ≡ o → onArena o .held ≡ callWith (setupNow g) o (call (decodePlan plan)) h .held
+  unfolding onRows callWith
+  arena-held none e = refl
+  arena-held (some rows) e = planned-held rows e (decodePlan plan)
 
   -- ---- the stores that are reported as refused
 
@@ -90,10 +87,10 @@ module _ (g : Settings) (plan replies : Bytes) (clock epoch : ℕ) (buffer : Byt
   planned-stores rows (some p) =
       byTest (isValue replies) (λ t. rw t (answer-stores rows (p .transaction) (resolve (planRead p) (g .mode) clock (resp.decode replies)))) (λ t. rw t)
 
-  imaged-stores : (o : Option (ℕ → Row)) → imaged g o plan replies clock epoch buffer h .stores ≡ refusedBy (callWith (setupNow g) o (call (decodePlan plan)) h .outcome)
-  unfolding imaged callWith refusedBy
-  imaged-stores none = refl
-  imaged-stores (some rows) = planned-stores rows (decodePlan plan)
+  arena-stores : (o : Option (ℕ → Row)) → onArena o .stores ≡ refusedBy (callWith (setupNow g) o (call (decodePlan plan)) h .outcome)
+  unfolding onRows callWith refusedBy
+  arena-stores none = refl
+  arena-stores (some rows) = planned-stores rows (decodePlan plan)
 
 -- ---- the theorems
 
@@ -101,14 +98,14 @@ module _ (size mode ttl : ℕ) (plan replies : Bytes) (clock epoch : ℕ) (buffe
   -- what the caller holds after a resolving is what the book's call leaves
   pub resolve-held : resolveCall size mode ttl plan replies clock epoch buffer h .held
       ≡ callOn isValue (setupNow g) (toldBy (g .mode) (decodePlan plan) replies clock epoch (length buffer)) h .held
-  unfolding resolveCall configured callOn
-  resolve-held = rw e (imaged-held g plan replies clock epoch buffer h (decode isValue (setupNow g) (h .arena)) refl)
+  unfolding resolveCall entered callOn
+  resolve-held = rw e (arena-held g plan replies clock epoch buffer h (decode isValue (setupNow g) (h .arena)) refl)
 
   -- and as many stores are reported as refused as the book refuses
   pub resolve-refused : resolveCall size mode ttl plan replies clock epoch buffer h .stores
       ≡ refusedBy (callOn isValue (setupNow g) (toldBy (g .mode) (decodePlan plan) replies clock epoch (length buffer)) h .outcome)
-  unfolding resolveCall configured callOn
-  resolve-refused = rw e (imaged-stores g plan replies clock epoch buffer h (decode isValue (setupNow g) (h .arena)))
+  unfolding resolveCall entered callOn
+  resolve-refused = rw e (arena-stores g plan replies clock epoch buffer h (decode isValue (setupNow g) (h .arena)))
 
 -- ---- what is stored may be stored
 

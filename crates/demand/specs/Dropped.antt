@@ -18,7 +18,7 @@ use Rattle.book.specs.Counts.{Counted, fit-adds}
 use Rattle.book.specs.Trace.{SoundBook, sound}
 use Rattle.book.specs.Residence.{itemOf, hasUnder, leaves, ends}
 use Rattle.book.specs.Items.{ifCurrent, turned-defs, item-after}
-use Rattle.single_calls.specs.Single.{noCause}
+use Rattle.call_entry.specs.Entered.{noCause}
 use Rattle.demand.specs.Call.{RealCall, Given, setupBy}
 use Rattle.demand.specs.Words.{droppedBy, droppedIn}
 use Rattle.demand.specs.Demand.{heldBy, setup, traceBy}

@@ -10,7 +10,7 @@ use Rattle.buffer.specs.Same.{Bytes}
 use Rattle.config.specs.Wrap.{wrap}
 use Rattle.book.specs.Book.{Counts}
 use Rattle.arena.specs.Sequence.{Held}
-use Rattle.single_calls.specs.Single.{noCause}
+use Rattle.call_entry.specs.Entered.{noCause}
 use Rattle.demand.specs.Call as real
 use Rattle.demand.specs.Call.{RealCall, epochTaken, setupBy, afterSetup, step, heldAfter}
 use Rattle.demand.specs.Words.{epochsIn}

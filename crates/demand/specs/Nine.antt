@@ -34,8 +34,8 @@ use Rattle.arena.specs.Octets.{EventOctets, arena-octets}
 use Rattle.arena.specs.Sequence.{Held, lend, bookOf}
 use Rattle.arena.specs.Stores.{storing}
 use Rattle.arena.specs.Reach.{building, building-all, singles, not-yet, reached}
+use Rattle.call_entry.specs.Entered.{noCause, onRows, entered}
 use Rattle.single_calls.specs.Single as one
-use Rattle.single_calls.specs.Single.{noCause}
 use Rattle.single_calls.specs.AsCall.{callOf}
 use Rattle.push.specs.Push as pushes
 use Rattle.cache_manager.specs.Pipeline as plannings
@@ -62,8 +62,8 @@ module _ (size : ℕ) (h : Held) where
   -- where it is none
   gives-nine : (c : RealCall) → LentArena c → refused size (modeIn c) n ≡ false → decode isValue p (h .arena) ≡ none
       → causeOf (step size c h .return) ≡ badArena
-  unfolding causeOf step modeIn setupWith settingsOf plannings.planCall plannings.configured plannings.imaged plannings.causeOf resolvings.resolveCall
-      resolvings.configured resolvings.imaged one.singleCall one.configured one.imaged pushes.pushCall pushes.configured pushes.imaged
+  unfolding causeOf step modeIn setupWith settingsOf plannings.planCall plannings.causeOf resolvings.resolveCall
+      one.singleCall pushes.pushCall onRows entered
   gives-nine (planning m d t e bytes plan send) a f q = rw (is-fine size n m d f) (rw q)
   gives-nine (resolving m d t e plan replies answer) a f q = rw (is-fine size n m d f) (rw q)
   gives-nine (push m d bytes) a f q = rw (is-fine size n m d f) (rw q)

@@ -36,7 +36,7 @@ use Rattle.planning.specs.Planning.{Planned, plannedFrom, short, callOf}
 use Rattle.plan.specs.Decode.{decodePlan}
 use Rattle.plan_outcomes.specs.Law.{Read, planned-read}
 use Rattle.plan_outcomes.specs.Served.{dry-good}
-use Rattle.single_calls.specs.Single.{noCause}
+use Rattle.call_entry.specs.Entered.{noCause}
 use Rattle.cache_manager.specs.Pipeline as plannings
 use Rattle.cache_manager.specs.Pipeline.{wrote}
 use Rattle.cache_manager.specs.Call as told

@@ -32,7 +32,7 @@ use Rattle.plan.specs.Decode.{decodePlan}
 use Rattle.plan_commands.specs.Commands.{planRead}
 use Rattle.resolving.specs.Resolve.{Resolved, cause7, answered, resolve}
 use Rattle.resolving.specs.Result.{resultBytes}
-use Rattle.single_calls.specs.Single.{noCause}
+use Rattle.call_entry.specs.Entered.{noCause}
 use Rattle.single_calls.specs.AsCall as singles
 use Rattle.caching_cmd.specs.Call.{fits, toldTo, refusedOf}
 use Rattle.caching_cmd.specs.Told.{toldBy}

@@ -30,7 +30,7 @@ use Rattle.plan_commands.specs.Commands.{planRead}
 use Rattle.resolving.specs.Resolve.{Resolved, cause7, answered, resolve}
 use Rattle.resolving.specs.Result.{resultBytes}
 use Rattle.single_calls.specs.Single as one
-use Rattle.single_calls.specs.Single.{noCause}
+use Rattle.call_entry.specs.Entered.{noCause}
 use Rattle.single_calls.specs.AsCall as singles
 use Rattle.single_calls.specs.Place.{servedAt}
 use Rattle.cache_manager.specs.Call as told

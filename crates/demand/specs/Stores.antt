@@ -28,7 +28,7 @@ use Rattle.book.specs.Lookups.{answerFrom, Serving, serving, lookup-answer}
 use Rattle.book.specs.Demand3.{shardAfter}
 use Rattle.arena.specs.Sequence.{Held, outcomeOf}
 use Rattle.single_calls.specs.Single as one
-use Rattle.single_calls.specs.Single.{noCause}
+use Rattle.call_entry.specs.Entered.{noCause}
 use Rattle.single_calls.specs.AsCall.{callOf, outcomeNumber, outcomeValue}
 use Rattle.caching.specs.Exported.{flagOf, bytesOf}
 use Rattle.demand.specs.Call as real

@@ -34,7 +34,7 @@ use Rattle.arena.specs.Tests.{WellFormed}
 use Rattle.arena.specs.Sequence.{Held, lend, outcomeOf}
 use Rattle.planning.specs.Ask.{anyLate}
 use Rattle.single_calls.specs.Single as one
-use Rattle.single_calls.specs.Single.{noCause}
+use Rattle.call_entry.specs.Entered.{noCause}
 use Rattle.single_calls.specs.AsCall.{outcomeNumber}
 use Rattle.cache_manager.specs.Pipeline as pipeline
 use Rattle.demand.specs.Call as real

@@ -10,7 +10,7 @@ use Rattle.resp3.specs.Ends.{isValue}
 use Rattle.book.specs.Book.{Counts}
 use Rattle.book.specs.Counts.{Counted}
 use Rattle.arena.specs.Tests.{WellFormed}
-use Rattle.single_calls.specs.Single.{noCause}
+use Rattle.call_entry.specs.Entered.{noCause}
 use Rattle.demand.specs.Call.{RealCall, Given, setupBy, returnFor}
 use Rattle.demand.specs.Demand.{setup, CallIn, returned, response, bookBefore, Demand, DemandThree, CauseNine}
 use Rattle.demand.specs.Laws.{in-turn-field, happened-field, sound-field, ends-field}

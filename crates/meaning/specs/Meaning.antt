@@ -1,7 +1,7 @@
--- What each exported function answers, by meaning alone: these bytes are a valid record's, a plan's, a value's, an image of these rows; one case for each cause, in
--- the causes' order, and the case that passes. The contracts cite definitions that compute (a check, a reader, a decoder); the theorems of Theorems.antt say that what
--- they compute is a case here, so that who believes this page need not read them. Each case's condition excludes the others', so that each answer is given exactly
--- where its condition holds. Assumes nothing: these are definitions, and the theorems' types.
+-- What each exported function answers, by meaning alone: these bytes are a valid record's, a plan's, a value's, an image of these rows; one case for each
+-- cause, in the causes' order, and the case that passes. The contracts cite definitions that compute (a check, a reader, a decoder); the theorems of
+-- Theorems.antt say that what they compute is a case here, so that who believes this page need not read them. Each case's condition excludes the
+-- others' (Only.antt), so that each answer is given exactly where its condition holds. Assumes nothing: these are definitions, and the theorems' types.
 -- Setup, new epoch and the counts have no case here: their contracts compute nothing that has to be told by meaning.
 -- Letters: g settings, h what the caller holds, s the arena's bytes, p the book's setup, r a record, v a value.
 -- replaced: caching.Planned.planBy caching.Resolved.resolveBy caching.Pushed.pushBy caching.Exported.lookupBy caching.Exported.storeBy
@@ -32,24 +32,22 @@ use Rattle.call_record.specs.Offset.{IsRecord, FirstAllowed}
 use Rattle.call_record.specs.Check.{checkDef}
 use Rattle.call_record.specs.declared.Checked.the-variants.{Fine, Wrong}
 use Rattle.cursor.specs.At.{recordAt}
-use Rattle.book.specs.Book as book
 use Rattle.book.specs.Book.{Setup, Entry, Item, Row, Counts, Keyed, lookup, store, invalidate}
 use Rattle.book.specs.Calls.{single, afterCall}
 use Rattle.book.specs.Sound.{Sound}
 use Rattle.arena.specs.Layout.{encode}
 use Rattle.arena.specs.Decode.{decode}
 use Rattle.arena.specs.Place.{arenaPlace}
-use Rattle.arena.specs.Sequence.{Held, lend, bookOf}
+use Rattle.arena.specs.Sequence.{Held, bookOf}
 use Rattle.sharded_lru.specs.Lent.{setupNow}
 use Rattle.planning.specs.Plan.{Plan, encPlan}
 use Rattle.planning.specs.Rules.{GoodPlan, IsPlan}
 use Rattle.plan.specs.Decode.{decodePlan}
 use Rattle.plan_commands.specs.Commands.{planRead}
-use Rattle.resolving.specs.Pushes.{pushed}
 use Rattle.resolving.specs.Resolve.{resolve}
 use Rattle.single_calls.specs.Single.{Return, refusedAs, overlong, calledOn}
 use Rattle.single_calls.specs.Place.{servedAt}
-use Rattle.single_calls.specs.Answers.{holding}
+use Rattle.call_entry.specs.Entered.{holding}
 use Rattle.push.specs.Push.{pushedOn}
 use Rattle.cache_manager.specs.Pipeline as plannings
 use Rattle.cache_manager.specs.Pipeline.{Left, refusal, recorded}
@@ -170,7 +168,10 @@ module _ (plan buffer : Bytes) where
   pub data Serves : ServedAnswer × Bytes → Type 0 where
     noPlanServed : (IsPlan plan → ⊥) → Serves (Refused badPlan, buffer)
     ofPlanServed : (p : Plan) → GoodPlan p → plan ≡ encPlan p
-        → Serves (servedFrom (p .transaction) (servedAnswers (planRead p .commands)) (length buffer), bufferFrom (p .transaction) (servedAnswers (planRead p .commands)) buffer)
+        → Serves (
+          servedFrom (p .transaction) (servedAnswers (planRead p .commands)) (length buffer),
+          bufferFrom (p .transaction) (servedAnswers (planRead p .commands)) buffer,
+        )
 
 -- ---- the end of the first value in bytes received so far
 

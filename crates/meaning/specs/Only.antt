@@ -3,14 +3,14 @@
 use mathlib.Core.Path.{_≡_, refl, sym, ap, ap₂, subst, _∙_}
 use mathlib.Core.Logic.{_↔_}
 use mathlib.Core.Bool.{Bool, true, false}
-use mathlib.Core.Option.{some, Option·some-injective}
+use mathlib.Core.Option.{Option·some-injective}
 use Prim.Native.Nat.{ℕ}
 use native.Mathlib.Omega.{arith}
 use lib.ListN.{length}
 use Rattle.buffer.specs.Same.{Bytes}
 use Rattle.config.specs.Config.{refused, settingsOf}
 use Rattle.config.specs.declared.Settings.{Settings}
-use Rattle.resp3.specs.Value.{Value, Means, IsValue}
+use Rattle.resp3.specs.Value.{Value, Means}
 use Rattle.resp3.specs.Law as values
 use Rattle.call_record.specs.Record.{Record}
 use Rattle.call_record.specs.Offset.{FirstAllowed}
@@ -24,7 +24,7 @@ use Rattle.plan.specs.Law as plans
 use Rattle.plan_commands.specs.Commands.{planRead}
 use Rattle.resolving.specs.Resolve.{resolve}
 use Rattle.single_calls.specs.Single.{Return, refusedAs, singleCall}
-use Rattle.single_calls.specs.Answers.{holding}
+use Rattle.call_entry.specs.Entered.{holding}
 use Rattle.push.specs.Push.{pushedOn}
 use Rattle.cache_manager.specs.Pipeline as plannings
 use Rattle.cache_manager.specs.Pipeline.{Left, refusal, recorded}

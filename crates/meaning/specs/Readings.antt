@@ -1,5 +1,5 @@
--- What the readers read (`Readings` of Meaning.antt), proved: the laws of call_record, cursor, resp3 and plan together, and the arena's with "exactly one value" by
--- meaning in the place of the test. Assumes nothing.
+-- What the readers read (`Readings` of Meaning.antt), proved: the laws of call_record, cursor, resp3 and plan together, and the arena's with "exactly
+-- one value" by meaning in the place of the test. Assumes nothing.
 use mathlib.Core.Path.{_≡_, refl, sym, _∙_}
 use mathlib.Core.Logic.{_↔_}
 use mathlib.Core.Bool.{true, false}
@@ -19,10 +19,10 @@ use Rattle.resp3.specs.Law as values
 use Rattle.call_record.specs.Record.{encRecord}
 use Rattle.call_record.specs.Check.{check-fine, check-offset}
 use Rattle.cursor.specs.Laws.{decoded}
-use Rattle.book.specs.Book.{Setup, Entry, Item, Row}
+use Rattle.book.specs.Book.{Setup, Entry, Row}
 use Rattle.book.specs.Each.{Each}
 use Rattle.book.specs.Storable.{StorableEntries, StorableItem}
-use Rattle.arena.specs.Decode.{every, mayStore, decode}
+use Rattle.arena.specs.Decode.{mayStore, decode}
 use Rattle.arena.specs.Tests.{every-yes, yes-every, WellFormed}
 use Rattle.arena.specs.Image as images
 use Rattle.arena.specs.Image.{Sized}

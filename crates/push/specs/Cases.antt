@@ -28,12 +28,13 @@ use Rattle.arena.specs.Sizes.{setupOf}
 use Rattle.resolving.specs.Pushes.{pushed}
 use Rattle.resp3.specs.Decode.{bytesAt, lineAt, integerAt, flagAt, valuesAt, pairsAt, attributeAt, bodyOf, iterOf, valueOf, decode as decodeValue}
 use Rattle.single_calls.specs.Single.{Return, refusedAs}
-use Rattle.push.specs.Push.{pushedOn, imaged, configured, pushCall}
+use Rattle.call_entry.specs.Entered.{onRows, entered}
+use Rattle.push.specs.Push.{pushedOn, imaged, pushCall}
 
 -- one name that opens all that these cases compute
 unfoldable case-defs : Unit {0}
 unfolding
-    pushedOn imaged configured pushCall checked refused settingsOf setupOf book-defs call-defs ons invalidations same le readLe part put head itemHead encEntry encEntries
+    pushedOn imaged onRows entered pushCall checked refused settingsOf setupOf book-defs call-defs ons invalidations same le readLe part put head itemHead encEntry encEntries
     encItem encItems encShard encShards encode readEntry readEntries readItem readItems readShard readArena every distinctKeys distinctCommands mayStore itemFits itemFine
     rowFine rowsFine isImage decode digits isValue valueEnd headAt bodyHead iter booleanEnd numberEnd verbatimEnd blobEnd lineEnd plain plainB crlfEnd lengthAt kindOf
     numDef finDef endedDef crlfB lend pushed bytesAt lineAt integerAt flagAt valuesAt pairsAt attributeAt bodyOf iterOf valueOf decodeValue rotated sipRound rounds initial

@@ -17,7 +17,8 @@ ghost use Rattle.book.specs.Book.{Book, plus, count};
 ghost use Rattle.book.specs.Calls.{push, afterCall};
 ghost use Rattle.resolving.specs.Pushes.{keysOf, invalidating, isInvalidate, fromElements, pushed};
 ghost use Rattle.sharded_lru.specs.Lent.{setupNow, Arena};
-ghost use Rattle.single_calls.specs.Answers.{countsOf, holding, InvalidationLeft};
+ghost use Rattle.call_entry.specs.Entered.{holding};
+ghost use Rattle.single_calls.specs.Answers.{countsOf, InvalidationLeft};
 ghost use Rattle.push.specs.Push.{pushCall};
 ghost use Rattle.push.specs.Kept.{Kept, One, Standing};
 

@@ -34,7 +34,8 @@ use Rattle.resolving.specs.Resolve.{Resolved, cause7, answered, resolve, takeCo
 use Rattle.resolving.specs.Result.{resultBytes}
 use Rattle.caching_cmd.specs.declared.ResolveAnswer.{ResolveAnswer}
 use Rattle.caching_cmd.specs.declared.ResolveAnswer.the-variants.{Answered, Refused}
-use Rattle.caching_cmd.specs.Call.{returning, fits, toldTo, refusedOf, answerOf, bufferAfter, resolvedOn, planned, imaged, configured, resolveCall}
+use Rattle.caching_cmd.specs.Call.{returning, fits, toldTo, refusedOf, answerOf, bufferAfter, resolvedOn, planned, resolveCall}
+use Rattle.call_entry.specs.Entered.{onRows, entered}
 use Rattle.served.specs.declared.ServedAnswer.{ServedAnswer}
 use Rattle.served.specs.declared.ServedAnswer.the-variants.{Answered as Served, NeedsReplies, Refused as NotServed}
 use Rattle.served.specs.Served.{servedAnswers, servedFrom, bufferFrom, servedOf, bufferOf, servedCall, servedBuffer}
@@ -81,7 +82,7 @@ module _ (size mode ttl : ℕ) (plan : Bytes) (clock epoch : ℕ) (buffer : Byte
   resolving-is : (replies : Bytes) → isValue replies ≡ true → (rs : Values) → repliesOf (p .transaction) (resp.decode replies) ≡ some rs
       → resolveCall size mode ttl plan replies clock epoch buffer h
       ≡ resolvedOn (setupNow g) rows (p .transaction) epoch (takeCommands (g .mode) clock (planRead p .commands) rs) buffer h
-  unfolding resolveCall configured imaged planned resolve planRead
+  unfolding resolveCall onRows entered planned resolve planRead
   resolving-is replies i rs l = rw (c, e, d, i, l)
 
   -- what comes out where the plan is one

@@ -3,12 +3,12 @@ use mathlib.Core.Path.{_≡_, refl, sym, ap, _∙_, subst}
 use Prim.Native.Nat.{ℕ, _-_}
 use native.Mathlib.Omega.{arith}
 use mathlib.Core.Bool.{Bool, true, false, cond}
-use mathlib.Core.Option.{Option, none, some}
+use mathlib.Core.Option.{none, some}
 use lib.ListN.{length}
 use lib.Dec.{eqb}
 use Rattle.buffer.specs.Same.{Bytes}
 use Rattle.buffer.specs.Part.{part, length-part}
-use Rattle.config.specs.Causes.{badConfig, badArena, tooLong, badReply, noSpace}
+use Rattle.config.specs.Causes.{tooLong, badReply, noSpace}
 use Rattle.config.specs.Config.{checked}
 use Rattle.config.specs.declared.Settings.{Settings}
 use Rattle.config.specs.declared.CheckedConfig.{CheckedConfig}
@@ -18,7 +18,7 @@ use Rattle.resp3.specs.Ends.{isValue}
 use Rattle.book.specs.Book.{Setup, Row, Counts, plus, count, Answer, stored, noSpace as spaceless, invalidated, Keyed, lookup, on, put, effect, after, afterAll, answerTo}
 use Rattle.book.specs.Calls.{ons, call-defs}
 use Rattle.arena.specs.Layout.{encode}
-use Rattle.arena.specs.Decode.{readArena, isImage, decode}
+use Rattle.arena.specs.Decode.{readArena, decode}
 use Rattle.arena.specs.Image.{decodes}
 use Rattle.arena.specs.Place.{arenaPlace}
 use Rattle.arena.specs.Sequence.{Held, lend}
@@ -29,66 +29,53 @@ use Rattle.shard_lookup.specs.declared.Looked.the-variants.{Hit as Got, Miss as
 use Rattle.shard_lookup.specs.Whole.{wholeKey, whole-bytes}
 use Rattle.sharded_lru.specs.Lent.{setupNow, Lent, effectIn, rowsAfter}
 use Rattle.sharded_lru.specs.Laws.{sized}
-use Rattle.sharded_lru.specs.Admit.{admittedBy, admitted, Entered}
-use Rattle.sharded_lru.specs.declared.Admitted.the-variants.{Admits, Refused as NotAdmitted}
+use Rattle.sharded_lru.specs.Admit.{admitted, Entered}
+use Rattle.sharded_lru.specs.declared.Admitted.the-variants.{Refused as NotAdmitted}
+use Rattle.call_entry.specs.Laws.{is-entered, not-entered}
 use Rattle.single_calls.specs.declared.Answered.the-variants.{Done, Refused}
 use Rattle.single_calls.specs.declared.Found.the-variants.{Denied}
-use Rattle.single_calls.specs.Single.{noCause, Return, refusedAs, overlong, wrongBytes, numberOf, servedBy, calledOn, imaged, configured, singleCall}
+use Rattle.call_entry.specs.Entered.{noCause, holding}
+use Rattle.single_calls.specs.Single.{Return, refusedAs, overlong, wrongBytes, numberOf, servedBy, calledOn, imaged, singleCall}
 use Rattle.single_calls.specs.Place.{placeIn, servedAt, placeLeft, placeUnder, lookupPlace}
 use Rattle.single_calls.specs.AnswerLaws.{done-is, refused-is, hit-is, miss-is, denied-is}
-use Rattle.single_calls.specs.Answers.{countsOf, holding, Left, LookupLeft, InvalidationLeft, moreOf, lookedUp}
+use Rattle.single_calls.specs.Answers.{countsOf, Left, LookupLeft, InvalidationLeft, moreOf, lookedUp}
 
 -- ---- causes 1 and 9
-
-no-rows : (p : Setup) (q : Keyed) (h : Held) → imaged p none q h ≡ refusedAs badArena h
-unfolding imaged
-no-rows p q h = refl
 
 module _ (size mode ttl : ℕ) (q : Keyed) (s : Bytes) where
   -- a call that is not admitted
   pub not-admitted : (n : ℕ) (lent : Counts) (next : ℕ) → admitted size mode ttl s ≡ NotAdmitted n
       → singleCall size mode ttl q (holding s lent next) ≡ refusedAs n (holding s lent next)
-  unfolding admitted singleCall configured
-  not-admitted n lent next = go (checked size mode ttl (length s))
-    where
-      judge : (g : Settings) (b : Bool) → isImage isValue (setupNow g) s ≡ b → cond b (Admits g) (NotAdmitted badArena) ≡ NotAdmitted n
-          → imaged (setupNow g) (decode isValue (setupNow g) s) q (holding s lent next) ≡ refusedAs n (holding s lent next)
-      judge g true e r = let z : _≡_ {A = ℕ} 0 1 = cc in absurd (omega arith)
-      judge g false e r =
-          let m : badArena ≡ n = cc in
-          let d : decode isValue (setupNow g) s ≡ none = unfold decode in rw e in
-          ap (λ (o : Option (ℕ → Row)). imaged (setupNow g) o q (holding s lent next)) d ∙ no-rows (setupNow g) q (holding s lent next)
-          ∙ ap (λ (k : ℕ). refusedAs k (holding s lent next)) m
-
-      go : (c : CheckedConfig) → admittedBy c s ≡ NotAdmitted n → configured c q (holding s lent next) ≡ refusedAs n (holding s lent next)
-      go BadConfig r = let m : badConfig ≡ n = cc in ap (λ (k : ℕ). refusedAs k (holding s lent next)) m
-      go (Fine g) r = judge g (isImage isValue (setupNow g) s) refl r
+  unfolding singleCall
+  not-admitted n lent next e =
+      not-entered (λ n. refusedAs n (holding s lent next)) (λ g rows. imaged (setupNow g) rows q (holding s lent next)) size mode ttl n s e
 
   -- one that is
   pub is-admitted : (g : Settings) (lent : Counts) (next : ℕ) → Entered size mode ttl s g
-      → singleCall size mode ttl q (holding s lent next) ≡ imaged (setupNow g) (some (readArena (setupNow g) s)) q (holding s lent next)
-  unfolding singleCall configured
-  is-admitted g lent next w = rw (w .fine, w .read)
+      → singleCall size mode ttl q (holding s lent next) ≡ imaged (setupNow g) (readArena (setupNow g) s) q (holding s lent next)
+  unfolding singleCall
+  is-admitted g lent next w =
+      is-entered (λ n. refusedAs n (holding s lent next)) (λ g rows. imaged (setupNow g) rows q (holding s lent next)) _ s g _ (w .fine) (w .read)
 
 -- and the place of what it serves
 pub place-admitted : (size mode ttl : ℕ) (k c : Bytes) (t e : ℕ) (s : Bytes) (g : Settings) (lent : Counts) (next : ℕ) → Entered size mode ttl s g
     → lookupPlace size mode ttl k c t e (holding s lent next)
-    ≡ placeLeft (setupNow g) k c (imaged (setupNow g) (some (readArena (setupNow g) s)) (lookup k c t e) (holding s lent next))
+    ≡ placeLeft (setupNow g) k c (imaged (setupNow g) (readArena (setupNow g) s) (lookup k c t e) (holding s lent next))
 unfolding lookupPlace placeUnder
 place-admitted size mode ttl k c t e s g lent next w = rw (is-admitted size mode ttl (lookup k c t e) s g lent next w, w .fine)
 
 -- ---- causes 3 and 6
 
 module _ (p : Setup) (rows : ℕ → Row) (q : Keyed) (h : Held) where
-  pub too-long : overlong q ≡ true → imaged p (some rows) q h ≡ refusedAs tooLong h
+  pub too-long : overlong q ≡ true → imaged p rows q h ≡ refusedAs tooLong h
   unfolding imaged
   too-long e = rw e
 
-  pub bad-bytes : overlong q ≡ false → wrongBytes q ≡ true → imaged p (some rows) q h ≡ refusedAs badReply h
+  pub bad-bytes : overlong q ≡ false → wrongBytes q ≡ true → imaged p rows q h ≡ refusedAs badReply h
   unfolding imaged
   bad-bytes e f = rw (e, f)
 
-  pub called : overlong q ≡ false → wrongBytes q ≡ false → imaged p (some rows) q h ≡ calledOn p rows q h
+  pub called : overlong q ≡ false → wrongBytes q ≡ false → imaged p rows q h ≡ calledOn p rows q h
   unfolding imaged
   called e f = rw (e, f)
 
@@ -151,7 +138,7 @@ whole-get g u rows k c t e r w = subst (Gets g u rows k t e r) (whole-bytes c) w
 module _ (g : Settings) (s u : Bytes) (rows : ℕ → Row) (q : Keyed) (next : ℕ) (n : length u ≡ length s) (w : Lent g u (rowsAfter (setupNow g) (on q) rows))
     (e : overlong q ≡ false) (f : wrongBytes q ≡ false) where
   abbrev here : Counts → Return
-  here lent = imaged (setupNow g) (some rows) q (holding s lent next)
+  here lent = imaged (setupNow g) rows q (holding s lent next)
 
   arena-is : (lent : Counts) → u ≡ here lent .held .arena
   unfolding calledOn lend call-defs ons afterAll after put effect rowsAfter

@@ -19,7 +19,8 @@ use Rattle.sharded_lru.specs.Admit.{admittedBy, admitted}
 use Rattle.sharded_lru.specs.declared.Admitted.the-variants.{Admits, Refused as NotAdmitted}
 use Rattle.single_calls.specs.declared.Answered.the-variants.{Done, Refused}
 use Rattle.single_calls.specs.declared.Found.the-variants.{Hit, Miss, Denied}
-use Rattle.single_calls.specs.Single.{noCause, Return}
+use Rattle.call_entry.specs.Entered.{noCause}
+use Rattle.single_calls.specs.Single.{Return}
 use Rattle.single_calls.specs.Answers.{answeredOf, servedAs, foundOf}
 
 module _ (d : Return) where

@@ -10,7 +10,6 @@ use Rattle.buffer.specs.Part.{part}
 use Rattle.statistics.specs.Counts.{moreHit, moreMiss, moreInvalidate}
 use Rattle.statistics.specs.declared.Statistics.{Statistics}
 use Rattle.book.specs.Book.{Counts}
-use Rattle.arena.specs.Sequence.{Held}
 use Rattle.shard_lookup.specs.declared.Looked.{Looked}
 use Rattle.shard_lookup.specs.declared.Looked.the-variants.{Hit as Got, Miss as Missed}
 use Rattle.single_calls.specs.declared.Answered.{Answered}
@@ -19,15 +18,12 @@ use Rattle.single_calls.specs.declared.Found.{Found}
 use Rattle.single_calls.specs.declared.Found.the-variants.{Hit, Miss, Denied}
 use Rattle.single_calls.specs.declared.LookedUp.{LookedUp}
 use Rattle.single_calls.specs.declared.Invalidated.{Invalidated}
-use Rattle.single_calls.specs.Single.{noCause, Return}
+use Rattle.call_entry.specs.Entered.{noCause}
+use Rattle.single_calls.specs.Single.{Return}
 
 -- the three counts as the book has them
 abbrev pub countsOf : Statistics → Counts
 countsOf s = record { hits = s .hit; misses = s .miss; invalidates = s .invalidate }
-
--- what the caller holds: arena, counts and next number
-abbrev pub holding : Bytes → Counts → ℕ → Held
-holding s c n = record { arena = s; counts = c; next = n }
 
 -- the cause's number in a store's or an invalidation's answer
 abbrev pub answerNumber : Answered → ℕ

@@ -1,6 +1,6 @@
 -- A single call is the book's call on bytes (arena/specs/Sequence.antt): what demand 3's sequences are made of is what the single calls do. Assumes that cause 1
 -- lets the settings through.
-use mathlib.Core.Path.{_≡_, refl, sym}
+use mathlib.Core.Path.{_≡_, refl, sym, ap}
 use Prim.Native.Nat.{ℕ, _^_, _<_}
 use mathlib.Core.Bool.{Bool, true, false, cond, _||_, false≢true}
 use mathlib.Core.Option.{Option, none, some}
@@ -12,20 +12,21 @@ use Rattle.buffer.specs.Same.{Bytes}
 use Rattle.config.specs.Causes.{badConfig, tooLong, badReply, badArena}
 use Rattle.config.specs.Config.{checked}
 use Rattle.config.specs.declared.Settings.{Settings}
-use Rattle.config.specs.declared.CheckedConfig.{CheckedConfig}
-use Rattle.config.specs.declared.CheckedConfig.the-variants.{Fine, Refused as BadConfig}
+use Rattle.config.specs.declared.CheckedConfig.the-variants.{Fine}
 use Rattle.resp3.specs.Ends.{isValue}
 use Rattle.book.specs.Book.{Setup, Row, Keyed, lookup, store, invalidate, put, after, answers, afterAll}
 use Rattle.book.specs.Calls.{Call, single, refused, ons, eventsOf, call-defs}
 use Rattle.book.specs.Counts.{Counted, store-counts}
 use Rattle.book.specs.Storable.{StorableEvents}
 use Rattle.arena.specs.Decode.{mayStore, decode}
-use Rattle.arena.specs.Image.{decode-exact}
 use Rattle.arena.specs.Sequence.{Held, Outcome, noImage, denied, said, Result, outcomeOf, lend, bookOf, callWith, callOn}
 use Rattle.shard_store.specs.Store.{Storable}
 use Rattle.sharded_lru.specs.Lent.{setupNow}
 use Rattle.sharded_lru.specs.Keeps.{MayStore, may-store}
-use Rattle.single_calls.specs.Single.{noCause, Return, refusedAs, overlongBy, overlong, wrongBytes, numberOf, servedBy, calledOn, imaged, configured, singleCall}
+use Rattle.call_entry.specs.Entered.{noCause, onRows, entered}
+use Rattle.call_entry.specs.Laws as entry
+use Rattle.call_entry.specs.Laws.{each-entry}
+use Rattle.single_calls.specs.Single.{Return, refusedAs, overlongBy, overlong, wrongBytes, numberOf, servedBy, calledOn, imaged, singleCall}
 
 -- the book's call that the arguments make: one that is refused where 3 or 6 refuses them, since of these the arguments alone decide
 unfoldable pub callOf : Keyed → Call
@@ -51,32 +52,32 @@ returned q r = record { cause = outcomeNumber q (r .outcome); value = outcomeVal
 -- a call that is refused leaves what the caller holds
 refused-held : (p : Setup) (rows : ℕ → Row) (h : Held) → decode isValue p (h .arena) ≡ some rows
     → callWith p (some rows) refused h ≡ record { outcome = denied; held = h }
-unfolding callWith call-defs afterAll answers lend outcomeOf
-refused-held p rows h d =
-    let b = decode-exact isValue p (h .arena) rows d .bytes in
-    λ i. record { outcome = denied; held = record { arena = b i; counts = h .counts; next = h .next } }
+unfolding callWith call-defs answers outcomeOf
+refused-held p rows h d = ap (λ (k : Held). record { outcome = denied; held = k }) (sym (entry.refused-held p rows h d))
 
 -- a single call is the book's call on bytes
 pub as-call : (size mode ttl : ℕ) (q : Keyed) (h : Held) (g : Settings) → checked size mode ttl (length (h .arena)) ≡ Fine g
     → singleCall size mode ttl q h ≡ returned q (callOn isValue (setupNow g) (callOf q) h)
-unfolding singleCall configured callOn
+unfolding singleCall entered callOn
 as-call size mode ttl q h g e = rw e (go (decode isValue (setupNow g) (h .arena)) refl)
   where
     long : (rows : ℕ → Row) → decode isValue (setupNow g) (h .arena) ≡ some rows → overlong q ≡ true
-        → imaged (setupNow g) (some rows) q h ≡ returned q (callWith (setupNow g) (some rows) (callOf q) h)
+        → imaged (setupNow g) rows q h ≡ returned q (callWith (setupNow g) (some rows) (callOf q) h)
     long rows d t = unfold imaged callOf outcomeNumber outcomeValue in rw (t, refused-held (setupNow g) rows h d, t)
 
     wrong : (rows : ℕ → Row) → decode isValue (setupNow g) (h .arena) ≡ some rows → overlong q ≡ false → wrongBytes q ≡ true
-        → imaged (setupNow g) (some rows) q h ≡ returned q (callWith (setupNow g) (some rows) (callOf q) h)
+        → imaged (setupNow g) rows q h ≡ returned q (callWith (setupNow g) (some rows) (callOf q) h)
     wrong rows d t u = unfold imaged callOf outcomeNumber outcomeValue in rw (t, u, refused-held (setupNow g) rows h d, t)
 
     done : (rows : ℕ → Row) → overlong q ≡ false → wrongBytes q ≡ false
-        → imaged (setupNow g) (some rows) q h ≡ returned q (callWith (setupNow g) (some rows) (callOf q) h)
+        → imaged (setupNow g) rows q h ≡ returned q (callWith (setupNow g) (some rows) (callOf q) h)
     done rows t u = unfold imaged callOf callWith calledOn outcomeNumber outcomeValue outcomeOf call-defs ons answers in rw (t, u)
 
-    go : (o : Option (ℕ → Row)) → decode isValue (setupNow g) (h .arena) ≡ o → imaged (setupNow g) o q h ≡ returned q (callWith (setupNow g) o (callOf q) h)
-    go none d = unfold imaged callWith outcomeNumber outcomeValue in refl
+    go : (o : Option (ℕ → Row)) → decode isValue (setupNow g) (h .arena) ≡ o
+        → onRows (λ n. refusedAs n h) (λ rows. imaged (setupNow g) rows q h) o ≡ returned q (callWith (setupNow g) o (callOf q) h)
+    go none d = unfold onRows callWith outcomeNumber outcomeValue in refl
     go (some rows) d =
+        unfold onRows in
         byTest (overlong q) (λ t. long rows d t) (λ t. byTest (wrongBytes q) (λ u. wrong rows d t u) (λ u. done rows t u))
 
 -- ---- what a single call leaves alone, so that it need not be given it
@@ -84,18 +85,13 @@ as-call size mode ttl q h g e = rw e (go (decode isValue (setupNow g) (h .arena)
 -- what holds where a cause refuses the call, and after the book's call, holds of every single call
 each-way : (P : Return → Type 0) (q : Keyed) (h : Held) → ((n : ℕ) → P (refusedAs n h)) → ((p : Setup) (rows : ℕ → Row) → P (calledOn p rows q h))
     → (size mode ttl : ℕ) → P (singleCall size mode ttl q h)
-unfolding singleCall
-each-way P q h refuses calls size mode ttl = go (checked size mode ttl (length (h .arena)))
-  where
-    rowed : (p : Setup) (o : Option (ℕ → Row)) → P (imaged p o q h)
-    rowed p none = unfold imaged in refuses badArena
-    rowed p (some rows) =
-        unfold imaged in
-        byTest (overlong q) (λ t. rw t (refuses tooLong)) (λ t. byTest (wrongBytes q) (λ u. rw (t, u) (refuses badReply)) (λ u. rw (t, u) (calls p rows)))
-
-    go : (c : CheckedConfig) → P (configured c q h)
-    go BadConfig = unfold configured in refuses badConfig
-    go (Fine g) = unfold configured in rowed (setupNow g) (decode isValue (setupNow g) (h .arena))
+unfolding singleCall imaged
+each-way P q h refuses calls size mode ttl =
+    each-entry (λ n. refusedAs n h) (λ g rows. imaged (setupNow g) rows q h) P (checked size mode ttl (length (h .arena))) (h .arena) (refuses badConfig)
+    (refuses badArena)
+    (λ g rows e d.
+    byTest (overlong q) (λ t. rw t (refuses tooLong))
+    (λ t. byTest (wrongBytes q) (λ u. rw (t, u) (refuses badReply)) (λ u. rw (t, u) (calls (setupNow g) rows))))
 
 -- the next number
 pub next-kept : (size mode ttl : ℕ) (q : Keyed) (h : Held) → singleCall size mode ttl q h .held .next ≡ h .next

@@ -8,20 +8,14 @@ use lib.ListN.{length}
 use lib.Dec.{ltb}
 use Rattle.buffer.specs.Same.{Bytes}
 use Rattle.config.specs.Limits.{maxKey, maxBytes}
-use Rattle.config.specs.Causes.{badConfig, tooLong, badReply, badArena, noSpace}
+use Rattle.config.specs.Causes.{tooLong, badReply, noSpace}
 use Rattle.config.specs.Config.{checked}
-use Rattle.config.specs.declared.CheckedConfig.{CheckedConfig}
-use Rattle.config.specs.declared.CheckedConfig.the-variants.{Fine, Refused as BadConfig}
 use Rattle.resp3.specs.Ends.{isValue}
 use Rattle.book.specs.Book.{Setup, Row, Answer, hit, miss, stored, noSpace as spaceless, invalidated, number, Keyed, lookup, store, invalidate, on, answerTo}
 use Rattle.book.specs.Calls.{single, afterCall}
-use Rattle.arena.specs.Decode.{decode}
 use Rattle.arena.specs.Sequence.{Held, lend, bookOf}
 use Rattle.sharded_lru.specs.Lent.{setupNow}
-
--- no cause refuses the call
-abbrev pub noCause : ℕ
-noCause = 0
+use Rattle.call_entry.specs.Entered.{noCause, entered}
 
 -- what a single call returns and leaves
 pub record Return : Type 0 where
@@ -78,16 +72,12 @@ calledOn p rows q h =
       held = lend p (length (h .arena)) (afterCall p (single q) (bookOf rows h));
     }
 
--- the causes in the order of rule C12: 1, 9, 3, 6, and 11 from the book's store
-unfoldable pub imaged : Setup → Option (ℕ → Row) → Keyed → Held → Return
-imaged p none q h = refusedAs badArena h
-imaged p (some rows) q h =
+-- on an image: the causes in the order of rule C12, 3, 6, and 11 from the book's store
+unfoldable pub imaged : Setup → (ℕ → Row) → Keyed → Held → Return
+imaged p rows q h =
     cond (overlong q) (refusedAs tooLong h) (cond (wrongBytes q) (refusedAs badReply h) (calledOn p rows q h))
-
-unfoldable pub configured : CheckedConfig → Keyed → Held → Return
-configured BadConfig q h = refusedAs badConfig h
-configured (Fine g) q h = imaged (setupNow g) (decode isValue (setupNow g) (h .arena)) q h
 
 -- the whole single call: size, mode's number, default TTL, what is asked, what the caller holds
 unfoldable pub singleCall : ℕ → ℕ → ℕ → Keyed → Held → Return
-singleCall size mode ttl q h = configured (checked size mode ttl (length (h .arena))) q h
+singleCall size mode ttl q h =
+    entered (λ n. refusedAs n h) (λ g rows. imaged (setupNow g) rows q h) (checked size mode ttl (length (h .arena))) (h .arena)

@@ -22,7 +22,8 @@ use Rattle.arena.specs.Place.{entriesPlace, itemsPlace, shardPlace, arenaPlace}
 use Rattle.arena.specs.Sequence.{Held, lend}
 use Rattle.arena.specs.Sizes.{setupOf}
 use Rattle.single_calls.specs.Place.{placeIn, servedAt, placeLeft, placeUnder, lookupPlace}
-use Rattle.single_calls.specs.Single.{Return, overlong, wrongBytes, numberOf, servedBy, calledOn, imaged, configured, singleCall}
+use Rattle.call_entry.specs.Entered.{onRows, entered}
+use Rattle.single_calls.specs.Single.{Return, overlong, wrongBytes, numberOf, servedBy, calledOn, imaged, singleCall}
 
 -- one name that opens the whole call
 unfoldable single-defs : Unit {0}
@@ -30,7 +31,7 @@ unfolding
     book-defs call-defs ons le readLe part head itemHead encEntry encEntries encItem encItems encShard encShards encode readEntry readEntries readItem readItems
     readShard readArena every distinctKeys distinctCommands mayStore itemFits itemFine rowFine rowsFine isImage decode lend setupOf checked refused settingsOf
     crlfB endedDef finDef numDef kindOf lengthAt crlfEnd blobEnd iter bodyHead headAt valueEnd isValue rotated sipRound rounds initial compressed absorbed
-    lastWord finished sipHash overlong wrongBytes numberOf servedBy calledOn imaged configured singleCall
+    lastWord finished sipHash overlong wrongBytes numberOf servedBy calledOn imaged onRows entered singleCall
 single-defs = tt
 
 -- a fresh cache of n bytes, and one whose last byte is free and not zero

@@ -17,7 +17,8 @@ ghost use Rattle.sharded_lru.specs.Lent.{setupNow, Lent, Arena};
 ghost use Rattle.single_calls.specs.Setup.{setUp, freshArena};
 ghost use Rattle.single_calls.specs.Single.{overlongBy, imaged, singleCall};
 ghost use Rattle.single_calls.specs.Place.{placeLeft, lookupPlace};
-ghost use Rattle.single_calls.specs.Answers.{countsOf, holding, Left, LookupLeft, InvalidationLeft, moreOf, lookedUp};
+ghost use Rattle.call_entry.specs.Entered.{holding};
+ghost use Rattle.single_calls.specs.Answers.{countsOf, Left, LookupLeft, InvalidationLeft, moreOf, lookedUp};
 
 // What stands for a cause's number where no cause refuses a call.
 pub const NO_CAUSE: u64 = 0;
@@ -123,7 +124,7 @@ fn lookup_admitted(
     counts: Statistics,
 ) -> LookedUp
     requires { ⌜ Arena g (now arena) ⌝ }
-    ensures { λ r. ⌜ ((rows : ℕ → Row) (next : ℕ) → Lent g (now (arena .entry)) rows → LookupLeft (imaged (setupNow g) (some rows) (lookup (now (key .entry)) (now (command .entry)) clock epoch) (holding (now (arena .entry)) (countsOf counts) next)) (placeLeft (setupNow g) (now (key .entry)) (now (command .entry)) (imaged (setupNow g) (some rows) (lookup (now (key .entry)) (now (command .entry)) clock epoch) (holding (now (arena .entry)) (countsOf counts) next))) (now (arena .exit)) r) ⌝ }
+    ensures { λ r. ⌜ ((rows : ℕ → Row) (next : ℕ) → Lent g (now (arena .entry)) rows → LookupLeft (imaged (setupNow g) rows (lookup (now (key .entry)) (now (command .entry)) clock epoch) (holding (now (arena .entry)) (countsOf counts) next)) (placeLeft (setupNow g) (now (key .entry)) (now (command .entry)) (imaged (setupNow g) rows (lookup (now (key .entry)) (now (command .entry)) clock epoch) (holding (now (arena .entry)) (countsOf counts) next))) (now (arena .exit)) r) ⌝ }
 {
     let n = command.len();
     if too_long(key.len(), n, 0) {
@@ -171,7 +172,7 @@ fn store_admitted(
     expiry: u64,
 ) -> Answered
     requires { ⌜ Arena g (now arena) ⌝ }
-    ensures { λ r. ⌜ ((rows : ℕ → Row) (lent : Counts) (next : ℕ) → Lent g (now (arena .entry)) rows → Left (imaged (setupNow g) (some rows) (store (now (key .entry)) (now (command .entry)) (now (value .entry)) expiry epoch) (holding (now (arena .entry)) lent next)) (now (arena .exit)) r) ⌝ }
+    ensures { λ r. ⌜ ((rows : ℕ → Row) (lent : Counts) (next : ℕ) → Lent g (now (arena .entry)) rows → Left (imaged (setupNow g) rows (store (now (key .entry)) (now (command .entry)) (now (value .entry)) expiry epoch) (holding (now (arena .entry)) lent next)) (now (arena .exit)) r) ⌝ }
 {
     if too_long(key.len(), command.len(), value.len()) {
         return Answered::Refused(config::TOO_LONG);
@@ -208,7 +209,7 @@ pub fn store(
 // An invalidation that causes 1 and 9 admitted.
 fn invalidate_admitted(arena: &mut [u8], g: Settings, key: &[u8], counts: Statistics) -> Invalidated
     requires { ⌜ Arena g (now arena) ⌝ }
-    ensures { λ r. ⌜ ((rows : ℕ → Row) (next : ℕ) → Lent g (now (arena .entry)) rows → InvalidationLeft (imaged (setupNow g) (some rows) (invalidate (now (key .entry))) (holding (now (arena .entry)) (countsOf counts) next)) (now (arena .exit)) r) ⌝ }
+    ensures { λ r. ⌜ ((rows : ℕ → Row) (next : ℕ) → Lent g (now (arena .entry)) rows → InvalidationLeft (imaged (setupNow g) rows (invalidate (now (key .entry))) (holding (now (arena .entry)) (countsOf counts) next)) (now (arena .exit)) r) ⌝ }
 {
     if too_long(key.len(), 0, 0) {
         return Invalidated {

@@ -1,7 +1,8 @@
 -- `cache_manager::plan_record` meets its contract. Assumes nothing.
 use mathlib.Core.Path.{refl, sym, _∙_}
 use Rattle.arena.specs.Sequence.{bookOf}
-use Rattle.cache_manager.specs.Pipeline.{holding}
+use Rattle.look_up.specs.Looks.{countsOf}
+use Rattle.call_entry.specs.Entered.{holding}
 use Rattle.cache_manager.specs.Fit.{fit}
 use Rattle.cache_manager.specs.Records as laws
 use borrow.Author.Needs.{needs}
@@ -48,7 +49,7 @@ same-length-4 : tie.Need-same-length-4
 same-length-4 c = search needs
 
 returns-3 : tie.Need-returns-3
-returns-3 c = λ rows next o. let w = c .before .before .before .before .before .before .before .before .before .before .before .before .before .before .before .before .before .before .before .before .before .pre in let a = c .before .before .before .before .before .before .before .before .before .before .before .before .before .before .before .before .before .before .before .before .before .args in laws.record-done (a .clock) (a .epoch) (a .bytes .now) (a .plan .now) (a .send .now) (a .arena .now) (a .g) _ (a .counts) (c .before .before .before .before .before .before .before .before .before .before .before .before .before .before .before .before .commands-of .ensures) (fit (a .bytes .now) (w .2)) rows next _ _ (c .before .before .before .before .before .before .before .before .before .before .before .before .before .is-transaction .ensures) (sym (c .before .before .before .before .before .before .before .before .before .before .before .before .before .before .before .any-late .ensures) ∙ c .before .before .before .before .before .before .before .before .before .before .before .before .before .before .if1 .left) (sym (c .before .before .before .before .before .before .before .before .before .before .before .is-short .ensures rows o) ∙ c .before .before .before .before .before .before .before .before .before .before .if2 .left) _ _ _ (c .before .before .before .before .before .arena .given) (c .before .before .before .before .before .before .write-pipeline .ensures (bookOf rows (holding (a .arena .now) (a .counts) next)) (record { rows = o; counts = refl }))
+returns-3 c = λ rows next o. let w = c .before .before .before .before .before .before .before .before .before .before .before .before .before .before .before .before .before .before .before .before .before .pre in let a = c .before .before .before .before .before .before .before .before .before .before .before .before .before .before .before .before .before .before .before .before .before .args in laws.record-done (a .clock) (a .epoch) (a .bytes .now) (a .plan .now) (a .send .now) (a .arena .now) (a .g) _ (a .counts) (c .before .before .before .before .before .before .before .before .before .before .before .before .before .before .before .before .commands-of .ensures) (fit (a .bytes .now) (w .2)) rows next _ _ (c .before .before .before .before .before .before .before .before .before .before .before .before .before .is-transaction .ensures) (sym (c .before .before .before .before .before .before .before .before .before .before .before .before .before .before .before .any-late .ensures) ∙ c .before .before .before .before .before .before .before .before .before .before .before .before .before .before .if1 .left) (sym (c .before .before .before .before .before .before .before .before .before .before .before .is-short .ensures rows o) ∙ c .before .before .before .before .before .before .before .before .before .before .if2 .left) _ _ _ (c .before .before .before .before .before .arena .given) (c .before .before .before .before .before .before .write-pipeline .ensures (bookOf rows (holding (a .arena .now) (countsOf (a .counts)) next)) (record { rows = o; counts = refl }))
 
 pub plan-record-spec : {M : Type 1} → statement M
 plan-record-spec =

@@ -1,12 +1,8 @@
 -- `caching_cmd::resolve_list` meets its contract. Assumes nothing.
 use Rattle.caching_cmd.specs.Laws as law
 use Rattle.caching_cmd.specs.Listed as listed
-use mathlib.Core.Path.{ap, _∙_}
-use Prim.Native.Nat.{ℕ}
 use lib.ListN.{length}
 use denote.Ref.{now}
-use Rattle.resolve_pass.specs.Passes.{spent}
-use Rattle.caching_cmd.specs.Settle.{wholeRoom}
 use borrow.Author.Needs.{needs}
 use Rattle.caching_cmd.proofs.resolve_list.Statement.{statement}
 use Rattle.caching_cmd.proofs.resolve_list.Tie as tie
@@ -27,10 +23,14 @@ spend-requires : tie.Need-spend-requires
 spend-requires c κs = search needs
 
 dry-pass-requires : tie.Need-dry-pass-requires
-dry-pass-requires c κs = listed.begins _ _ _ _ (c .before .before .before .before .start-at .ensures) (c .before .before .before .before .before .before .before .before .before .pre .1) (c .before .before .before .before .before .before .before .before .before .pre .2)
+dry-pass-requires c κs =
+    let pre = c .before .before .before .before .before .before .before .before .before .pre in
+    listed.begins _ _ _ _ (c .before .before .before .before .start-at .ensures) (pre .1) (pre .2)
 
 store-found-requires : tie.Need-store-found-requires
-store-found-requires c κs = let pre = c .before .before .before .before .before .before .before .before .before .before .before .pre in (pre .0, listed.begins _ _ _ _ (c .before .before .before .before .before .before .start-at .ensures) (pre .1) (pre .2))
+store-found-requires c κs =
+    let pre = c .before .before .before .before .before .before .before .before .before .before .before .pre in
+    (pre .0, listed.begins _ _ _ _ (c .before .before .before .before .before .before .start-at .ensures) (pre .1) (pre .2))
 
 enum-told : tie.Need-enum-told
 enum-told c = search needs
@@ -47,10 +47,10 @@ enum-told-3 c = search needs
 write-result-requires : tie.Need-write-result-requires
 write-result-requires c κs =
     let k = c .before .before .before .before .before .before .before in
-    let x = c .before .before .before .before .before .before .before .before .before .before .before .before .before .before .before .before .before .args in
-    let pre = c .before .before .before .before .before .before .before .before .before .before .before .before .before .before .before .before .before .pre in
-    let b = listed.begins _ _ _ _ (c .before .before .before .before .before .before .before .before .before .before .before .before .start-at .ensures) (pre .1) (pre .2) in
-    let q = c .before .before .before .before .before .before .before .before .spend .ensures ∙ ap (λ (h : ℕ). spent (wholeRoom (length (now (x .answer)))) h) (c .before .before .before .before .before .before .before .before .before .head-len .ensures) in
+    let x = k .before .before .before .before .before .before .before .before .before .before .args in
+    let pre = k .before .before .before .before .before .before .before .before .before .before .pre in
+    let b = listed.begins _ _ _ _ (k .before .before .before .before .before .start-at .ensures) (pre .1) (pre .2) in
+    let q = listed.room-left (length (now (x .answer))) _ _ _ (k .before .spend .ensures) (k .before .before .head-len .ensures) in
     let f = listed.fine-all _ _ _ (x .g .mode) (x .clock) _ _ _ _ q (k .dry-pass .ensures) (c .before .enum-told3 .given .1) in
     (b, listed.head-fits _ _ _ (x .g .mode) (x .clock) _ _ b f, f)
 
@@ -69,8 +69,9 @@ returns c =
     listed.list-wrong (x .g) (x .epoch) (now (x .plan)) (now (x .list)) (x .first) _ (x .clock) (now (x .answer)) (pre .1)
     (k .before .before .before .before .before .before .before .start-at .ensures) (pre .2 .small) v rs e t _ _ _ _
     (k .before .before .before .before .before .before .is-transaction .ensures) (k .before .before .before .before .before .command-count .ensures)
-    (k .before .before .before .spend .ensures ∙ ap (λ (h : ℕ). spent (wholeRoom (length (now (x .answer)))) h) (k .before .before .before .before .head-len .ensures))
-    (k .before .before .dry-pass .ensures) _ _ _ (k .store-found .ensures) _ _ (c .before .before .before .before .enum-told .given .1) (c .before .before .refuse-shape .ensures)
+    (listed.room-left (length (now (x .answer))) _ _ _ (k .before .before .before .spend .ensures) (k .before .before .before .before .head-len .ensures))
+    (k .before .before .dry-pass .ensures) _ _ _ (k .store-found .ensures) _ _
+    (c .before .before .before .before .enum-told .given .1) (c .before .before .refuse-shape .ensures)
 
 same-length-3 : tie.Need-same-length-3
 same-length-3 c = search needs
@@ -84,7 +85,7 @@ returns-2 c =
     listed.list-short (x .g) (x .epoch) (now (x .plan)) (now (x .list)) (x .first) _ (x .clock) (now (x .answer)) (pre .1)
     (k .before .before .before .before .before .before .before .start-at .ensures) (pre .2 .small) v rs e t _ _ _ _
     (k .before .before .before .before .before .before .is-transaction .ensures) (k .before .before .before .before .before .command-count .ensures)
-    (k .before .before .before .spend .ensures ∙ ap (λ (h : ℕ). spent (wholeRoom (length (now (x .answer)))) h) (k .before .before .before .before .head-len .ensures))
+    (listed.room-left (length (now (x .answer))) _ _ _ (k .before .before .before .spend .ensures) (k .before .before .before .before .head-len .ensures))
     (k .before .before .dry-pass .ensures) _ _ _ (k .store-found .ensures) (c .enum-told2 .given .1)
 
 same-length-4 : tie.Need-same-length-4
@@ -102,8 +103,9 @@ returns-3 c =
     listed.list-fits (x .g) (x .epoch) (now (x .plan)) (now (x .list)) (x .first) _ (x .clock) (now (x .answer)) (pre .1)
     (k .before .before .before .before .before .before .before .start-at .ensures) (pre .2 .small) v rs e t _ _ _ _
     (k .before .before .before .before .before .before .is-transaction .ensures) (k .before .before .before .before .before .command-count .ensures)
-    (k .before .before .before .spend .ensures ∙ ap (λ (h : ℕ). spent (wholeRoom (length (now (x .answer)))) h) (k .before .before .before .before .head-len .ensures))
-    (k .before .before .dry-pass .ensures) _ _ _ (k .store-found .ensures) _ _ (c .before .before .before .before .enum-told3 .given .1) (c .before .before .write-result .ensures)
+    (listed.room-left (length (now (x .answer))) _ _ _ (k .before .before .before .spend .ensures) (k .before .before .before .before .head-len .ensures))
+    (k .before .before .dry-pass .ensures) _ _ _ (k .store-found .ensures) _ _
+    (c .before .before .before .before .enum-told3 .given .1) (c .before .before .write-result .ensures)
 
 pub resolve-list-spec : {M : Type 1} → statement M
 resolve-list-spec =

@@ -30,7 +30,8 @@ same-length c = search needs
 returns : tie.Need-returns
 returns c =
     let x = c .before .before .before .before .before .before .before .before .before .args in
-    listed.stored-same (x .g) (x .epoch) (now (x .plan)) (now (x .list)) (x .start) (x .clock) _ _ _ (x .found) Wrong (c .before .before .before .before .enum-told .given .1) (c .before .before .store-if .ensures)
+    listed.stored-same (x .g) (x .epoch) (now (x .plan)) (now (x .list)) (x .start) (x .clock) _ _ _
+    (x .found) Wrong (c .before .before .before .before .enum-told .given .1) (c .before .before .store-if .ensures)
 
 same-length-2 : tie.Need-same-length-2
 same-length-2 c = search needs
@@ -38,7 +39,8 @@ same-length-2 c = search needs
 returns-2 : tie.Need-returns-2
 returns-2 c =
     let x = c .before .before .before .before .before .before .before .before .before .args in
-    listed.stored-same (x .g) (x .epoch) (now (x .plan)) (now (x .list)) (x .start) (x .clock) _ _ _ (x .found) Short (c .before .before .before .before .enum-told2 .given .1) (c .before .before .store-if2 .ensures)
+    listed.stored-same (x .g) (x .epoch) (now (x .plan)) (now (x .list)) (x .start) (x .clock) _ _ _
+    (x .found) Short (c .before .before .before .before .enum-told2 .given .1) (c .before .before .store-if2 .ensures)
 
 same-length-3 : tie.Need-same-length-3
 same-length-3 c = search needs
@@ -46,7 +48,8 @@ same-length-3 c = search needs
 returns-3 : tie.Need-returns-3
 returns-3 c =
     let x = c .before .before .before .before .before .before .before .before .before .args in
-    listed.stored-same (x .g) (x .epoch) (now (x .plan)) (now (x .list)) (x .start) (x .clock) _ _ _ (x .found) Fits (c .before .before .before .before .enum-told3 .given .1) (c .before .before .store-if3 .ensures)
+    listed.stored-same (x .g) (x .epoch) (now (x .plan)) (now (x .list)) (x .start) (x .clock) _ _ _
+    (x .found) Fits (c .before .before .before .before .enum-told3 .given .1) (c .before .before .store-if3 .ensures)
 
 pub store-found-spec : {M : Type 1} → statement M
 store-found-spec =

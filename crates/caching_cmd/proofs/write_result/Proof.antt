@@ -18,8 +18,11 @@ write-result-head-requires c κs = search needs
 answer-pass-requires : tie.Need-answer-pass-requires
 answer-pass-requires c κs =
     let k = c .before .before .before .before .before .before .before .before in
-    let x = k .args in
-    (k .pre .0, listed.fine-same _ _ _ (x .g .mode) (x .clock) _ _ _ _ (c .before .before .before .write-result-head .ensures .0) (c .before .before .answer .given) (k .pre .2))
+    let x = k .args in (
+      k .pre .0,
+      listed.fine-same _ _ _ (x .g .mode) (x .clock) _ _ _ _ (c .before .before .before .write-result-head .ensures .0)
+          (c .before .before .answer .given) (k .pre .2),
+    )
 
 same-length : tie.Need-same-length
 same-length c = search needs
