@@ -12,6 +12,10 @@ use Rattle.config.specs.Config.{refused, settingsOf}
 use Rattle.config.specs.declared.Settings.{Settings}
 use Rattle.resp3.specs.Value.{Value, Means}
 use Rattle.resp3.specs.Law as values
+use Rattle.resp3_prefix.specs.Begun.{firstValue}
+use Rattle.resp3_prefix.specs.Law.{complete-law, least-law, more-law, never-law}
+use Rattle.resp3_prefix.specs.declared.Begun.{Begun}
+use Rattle.resp3_prefix.specs.declared.Begun.the-variants.{Lacks}
 use Rattle.call_record.specs.Record.{Record}
 use Rattle.call_record.specs.Offset.{FirstAllowed}
 use Rattle.call_record.specs.Check.{record-one}
@@ -30,14 +34,16 @@ use Rattle.cache_manager.specs.Pipeline as plannings
 use Rattle.cache_manager.specs.Pipeline.{Left, refusal, recorded}
 use Rattle.caching_cmd.specs.Call as resolvings
 use Rattle.caching_cmd.specs.Call.{ResolveReturn, resolvedOn}
+use Rattle.served.specs.declared.ServedAnswer.{ServedAnswer}
+use Rattle.served.specs.Served.{servedAnswers, servedFrom, bufferFrom, servedCall, servedBuffer}
 use Rattle.caching.specs.Planned.{planBy}
 use Rattle.caching.specs.Resolved.{resolveBy}
 use Rattle.caching.specs.Pushed.{pushBy}
 use Rattle.caching.specs.Exported.{lookupBy}
 use Rattle.caching.specs.Place.{placeBy}
-use Rattle.meaning.specs.Meaning.{Image, Enters, wrongSettings, noImage, onImage, Plans, recordTooLong, noRecord, ofRecord, Resolves, noPlan, noReplies, ofPlan, Pushes, noPush, ofValue, Calls, partTooLong, noValue, onBook, Looks, keyTooLong, lookedUp}
+use Rattle.meaning.specs.Meaning.{Image, Enters, wrongSettings, noImage, onImage, Plans, recordTooLong, noRecord, ofRecord, Resolves, noPlan, noReplies, ofPlan, Pushes, noPush, ofValue, Calls, partTooLong, noValue, onBook, Looks, keyTooLong, lookedUp, Serves, noPlanServed, ofPlanServed, EndsSo, isComplete, lacks, never}
 use Rattle.meaning.specs.Readings.{readings}
-use Rattle.meaning.specs.Theorems.{plan-means, resolve-means, push-means, lookup-means, single-means}
+use Rattle.meaning.specs.Theorems.{plan-means, resolve-means, push-means, lookup-means, single-means, served-means, value-end-means}
 
 -- no test both holds and fails
 never-both : {b : Bool} → b ≡ true → b ≡ false → ⊥
@@ -183,3 +189,36 @@ module _ (size mode ttl : ℕ) (s : Bytes) (lent : Counts) (next : ℕ) where
         λ e. subst (Enters size mode ttl s (λ n. refusedAs n h) (Calls q h)) e w,
         λ v. enters-one size mode ttl s _ _ (λ g rows x y u z. calls-one q h g rows u z) w v,
       )
+
+-- ---- a plan answered alone, and the end of the first value
+
+serves-one : (plan buffer : Bytes) {x y : ServedAnswer × Bytes} → Serves plan buffer x → Serves plan buffer y → x ≡ y
+serves-one plan buffer (noPlanServed n) (noPlanServed m) = refl
+serves-one plan buffer (noPlanServed n) (ofPlanServed q v d) = absurd (n (record { plan = q; good = v; is = d }))
+serves-one plan buffer (ofPlanServed p w e) (noPlanServed n) = absurd (n (record { plan = p; good = w; is = e }))
+serves-one plan buffer (ofPlanServed p w e) (ofPlanServed q v d) =
+    ap {B = ServedAnswer × Bytes}
+    (λ (z : Plan). (
+      servedFrom (z .transaction) (servedAnswers (planRead z .commands)) (length buffer),
+      bufferFrom (z .transaction) (servedAnswers (planRead z .commands)) buffer,
+    ))
+    (plan-one plan p q w e v d)
+
+pub served-exactly : (plan buffer : Bytes) (x : ServedAnswer × Bytes)
+    → (_≡_ {A = ServedAnswer × Bytes} (servedCall plan (length buffer), servedBuffer plan buffer) x) ↔ Serves plan buffer x
+served-exactly plan buffer x =
+    let w = served-means plan buffer in
+    (λ e. subst (Serves plan buffer) e w, λ v. serves-one plan buffer w v)
+
+ends-so : (s : Bytes) {x : Begun} → EndsSo s x → firstValue s ≡ x
+ends-so s (isComplete n c) = complete-law s n .1 c
+ends-so s (lacks m k b l) =
+    let w = more-law s .1 ((k, b), m) in
+    let u = least-law s (w .0) (w .1) in
+    let i = l (w .0) (u .0) in
+    let j = u .1 k b in
+    w .1 ∙ ap Lacks (omega arith)
+ends-so s (never m n) = never-law s .1 (m, n)
+
+pub value-end-exactly : (received : Bytes) (x : Begun) → (firstValue received ≡ x) ↔ EndsSo received x
+value-end-exactly received x = (λ e. subst (EndsSo received) e (value-end-means received), λ v. ends-so received v)
