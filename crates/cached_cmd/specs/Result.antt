@@ -4,7 +4,7 @@
 -- v several keys.
 use mathlib.Core.Path.{_≡_}
 use mathlib.Core.List.{List, [], _∷_}
-use Prim.Native.Nat.{ℕ, _+_, _-_, _≤_, _<_}
+use Prim.Native.Nat.{ℕ, _-_, _≤_, _<_}
 use lib.ListN.{length}
 use Rattle.buffer.specs.Same.{Bytes}
 use Rattle.buffer.specs.Part.{part}
@@ -81,7 +81,7 @@ module _ (p : Setup) (rows : ℕ → Row) (t e : ℕ) where
 
     abbrev pub ServedIn : Served → Type 0
     ServedIn (Value g) = RangeIn a g
-    ServedIn (Values v) = SeveralIn s v × (plan.missing (placesOn (wantedIn s v)) ≡ [])
+    ServedIn (Values v) = SeveralIn s v × (length (plan.missing (placesOn (wantedIn s v))) ≡ 0)
 
     abbrev pub CommandIn : CacheableCommand → Type 0
     CommandIn (Single k x) = RangeIn s k
@@ -106,12 +106,7 @@ module _ (p : Setup) (rows : ℕ → Row) (t e : ℕ) where
       pub is : resultOf r ≡ o
       pub inside : ResultIn r
 
--- one more is missing, or not
-abbrev pub withLooked : ℕ → Looked → ℕ
-withLooked n (Hit from to) = n
-withLooked n (Miss x) = n + 1
-
--- ---- what a peek tells of a key's place: it is filled by the arena's bytes from `from` up to `to`, or it waits
+-- ---- what a peek or a lookup tells of a key's place: it is filled by the arena's bytes from `from` up to `to`, or it waits
 
 abbrev pub PlaceTold : Bytes → Wanted → plan.Place → Looked → Type 0
 PlaceTold a w q (Hit from to) = (from ≤ to) × (to ≤ length a) × (q ≡ plan.filled (part a from (to - from)))

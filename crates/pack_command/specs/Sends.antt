@@ -1,6 +1,6 @@
 -- What is sent for one command, as bytes, by the cases of its outcome as the code holds it. Assumes nothing.
--- Letters: g settings, rows the rows that the arena holds, t clock, e epoch, s the record's bytes, a the arena's, h the command's head, v several keys, n how
--- many of them are missing.
+-- Letters: m mode, g settings, rows the rows that the arena holds, t clock, e epoch, s the record's bytes, a the arena's, h the command's head, v several keys,
+-- n how many of them are missing, src and f where those that wait are read from.
 use mathlib.Core.Path.{_≡_, refl, sym, ap, ap₂, _∙_}
 use mathlib.Core.Bool.{Bool, true, false, cond}
 use mathlib.Core.List.{List, [], _∷_, _++_, append-nil, append-assoc}
@@ -10,6 +10,7 @@ use lib.ListN.{length, length-append}
 use lib.Seq.{length-take-le}
 use Rattle.buffer.specs.Same.{Bytes}
 use Rattle.buffer.specs.Ascii.{ascii}
+use Rattle.config.specs.Limits.{maxBytes}
 use Rattle.config.specs.declared.CacheMode.{CacheMode}
 use Rattle.config.specs.declared.CacheMode.the-variants.{All, OptIn}
 use Rattle.config.specs.declared.Settings.{Settings}
@@ -29,10 +30,9 @@ use Rattle.planning.specs.Outcome.{filled, waiting, missing, wholeKey, partKeys
 use Rattle.planning.specs.Sent.{Packed, itself, keysOf, pttls, packs, optInFirst, sends, sentBytes}
 use Rattle.ask.specs.Asked.{simplesOf, severalName, keysIn, pathIn, wantedIn, SeveralIn}
 use Rattle.ask.specs.declared.Several.{Several}
-use Rattle.sharded_lru.specs.Lent.{Lent, setupNow}
+use Rattle.sharded_lru.specs.Lent.{setupNow}
 use Rattle.plan_sizes.specs.Joined.{sent-packed}
-use Rattle.cached_cmd.specs.Result.{placeOn, placesOn, commandFor, CommandIn, resultOf, ResultIn}
-use Rattle.cached_cmd.specs.declared.Served.{Served}
+use Rattle.cached_cmd.specs.Result.{placeOn, placesOn, servedOf, resultOf, ResultIn}
 use Rattle.cached_cmd.specs.declared.CacheableCommand.{CacheableCommand}
 use Rattle.cached_cmd.specs.declared.CacheableCommand.the-variants.{Single, Multiple}
 use Rattle.cached_cmd.specs.declared.PrepCacheItem.{PrepCacheItem}
@@ -42,8 +42,9 @@ use Rattle.cached_cmd.specs.declared.CachingResult.the-variants.{Item, Ignored}
 use Rattle.pack_command.specs.declared.Half.{Half}
 use Rattle.pack_command.specs.declared.Half.the-variants.{Pttl, Own}
 use Rattle.several_keys.specs.Steps.{keys-few}
-use Rattle.several_keys.specs.Pieces.{pieces, keys-are, pttls-are, placesNow}
-use Rattle.several_keys.specs.declared.Piece.the-variants.{Key, Pttl as KeyPttl}
+use Rattle.several_keys.specs.Pieces.{placesNow}
+use Rattle.several_keys.specs.Source.{keysAt, KeysIn}
+use Rattle.several_keys.specs.declared.Source.{Source}
 
 -- ---- commands one after the other
 
@@ -130,34 +131,46 @@ argumentCount json n = n + cond json 2 1
 abbrev pub getName : Bool → ℕ → Bytes
 getName json n = head 42 (argumentCount json n) ++ blob (severalName json)
 
--- the name with the missing keys and the path
-abbrev pub getBytes : Settings → (ℕ → Row) → ℕ → ℕ → Bytes → Several → ℕ → Bytes
-getBytes g rows t e s v n = getName (v .json) n ++ (pieces Key (placesNow g rows t e s v) ++ blobBytes (pathIn s v))
+-- the name with n missing keys ks and the path
+abbrev pub getWith : Bytes → Several → ℕ → List Bytes → Bytes
+getWith s v n ks = getName (v .json) n ++ (blobBytes ks ++ blobBytes (pathIn s v))
 
 -- and then a `PTTL` for each
-abbrev pub severalBytes : Settings → (ℕ → Row) → ℕ → ℕ → Bytes → Several → ℕ → Bytes
-severalBytes g rows t e s v n = getBytes g rows t e s v n ++ pieces KeyPttl (placesNow g rows t e s v)
-
--- the same of n keys ks: the name with them and the path, and then a `PTTL` for each
 abbrev pub severalWith : Bytes → Several → ℕ → List Bytes → Bytes
-severalWith s v n ks = (getName (v .json) n ++ (blobBytes ks ++ blobBytes (pathIn s v))) ++ encAll packed (pttls ks)
+severalWith s v n ks = getWith s v n ks ++ encAll packed (pttls ks)
 
--- planning's `packs` of what the code's missing command stands for
-abbrev pub packsBytes : Settings → (ℕ → Row) → ℕ → ℕ → Bytes → Bytes → Head → CacheableCommand → Bytes
-packsBytes g rows t e s a h cc = sentBytes (packs (commandOf s h) (commandFor (setupNow g) rows t e s a (commandOf s h) cc))
+-- for what is missing, where the keys that wait are read from f
+abbrev pub missingWith : Bytes → Head → Bytes → Source → CacheableCommand → Bytes
+missingWith s h src f (Single key x) = singleBytes s h key
+missingWith s h src f (Multiple v n x) = severalWith s v n (keysAt src f (v .keys))
 
--- what is sent for a missing command: that, with `CLIENT CACHING YES` first in opt-in mode
-abbrev pub commandSent : Settings → (ℕ → Row) → ℕ → ℕ → Bytes → Bytes → Head → CacheableCommand → Bytes
-commandSent g rows t e s a h cc =
-    sentBytes (optInFirst (g .mode) (packs (commandOf s h) (commandFor (setupNow g) rows t e s a (commandOf s h) cc)))
+-- with `CLIENT CACHING YES` first in opt-in mode
+abbrev pub commandWith : CacheMode → Bytes → Head → Bytes → Source → CacheableCommand → Bytes
+commandWith m s h src f cc = cachingBytes m ++ missingWith s h src f cc
 
--- what it names lies inside, and its number is the true one
-abbrev pub CommandInside : Settings → Bytes → ℕ → ℕ → Bytes → Head → CacheableCommand → Type 0
-CommandInside g a t e s h cc = (rows : ℕ → Row) → Lent g a rows → CommandIn (setupNow g) rows t e s a (commandOf s h) cc
+-- what it names lies inside
+abbrev pub CommandSends : Bytes → Bytes → Source → CacheableCommand → Type 0
+CommandSends s src f (Single key x) = RangeIn s key
+CommandSends s src f (Multiple v n x) = SeveralIn s v × (0 < v .keys) × (n ≤ maxBytes) × KeysIn src f (v .keys)
 
--- what is sent for a command: planning's `sends` of the outcome that the code's stands for
-abbrev pub sentFor : Settings → (ℕ → Row) → ℕ → ℕ → Bytes → Bytes → Head → CachingResult → Bytes
-sentFor g rows t e s a h r = sentBytes (sends (g .mode) (commandOf s h) (resultOf (setupNow g) rows t e s a (commandOf s h) r))
+-- for a command
+abbrev itemWith : CacheMode → Bytes → Head → Bytes → Source → PrepCacheItem → Bytes
+itemWith m s h src f (Cached b) = []
+itemWith m s h src f (NotCached cc) = commandWith m s h src f cc
+itemWith m s h src f NotCacheable = ownBytes s h
+
+abbrev pub sentWith : CacheMode → Bytes → Head → Bytes → Source → CachingResult → Bytes
+sentWith m s h src f (Item i) = itemWith m s h src f i
+sentWith m s h src f Ignored = ownBytes s h
+
+abbrev ItemSends : Bytes → Bytes → Source → PrepCacheItem → Type 0
+ItemSends s src f (Cached b) = Unit {0}
+ItemSends s src f (NotCached cc) = CommandSends s src f cc
+ItemSends s src f NotCacheable = Unit {0}
+
+abbrev pub ResultSends : Bytes → Bytes → Source → CachingResult → Type 0
+ResultSends s src f (Item i) = ItemSends s src f i
+ResultSends s src f Ignored = Unit {0}
 
 -- ---- several keys
 
@@ -251,14 +264,6 @@ module _ (g : Settings) (rows : ℕ → Row) (t e : ℕ) (s : Bytes) (v : Severa
       let l = keys-few s v w in
       omega arith
 
-  -- the name with the missing keys and the path, piece by piece
-  get-pieces : (n : ℕ) → SeveralIn s v → 0 < v .keys → n ≡ length (missing (placesNow g rows t e s v))
-      → packed (severalName (v .json) ∷ (keysOf (missing (placesNow g rows t e s v)) ++ pathIn s v)) ≡ getBytes g rows t e s v n
-  get-pieces n w k q =
-      let ps = placesNow g rows t e s v in
-      name-pieces s v w n (keysOf (missing ps)) k (q ∙ sym (keys-length (missing ps)))
-      ∙ ap (λ (z : Bytes). getName (v .json) n ++ (z ++ blobBytes (pathIn s v))) (sym (keys-are ps))
-
 -- ---- by the outcome
 
 -- before a list of commands
@@ -303,50 +308,44 @@ packs-several c s v ps n x w k q =
     sent-more _ _
     ∙ ap₂ (λ (y z : Bytes). y ++ z) (name-pieces s v w n (keysOf (missing ps)) k (q ∙ sym (keys-length (missing ps)))) (sent-packed (pttls (keysOf (missing ps))))
 
-module _ (g : Settings) (rows : ℕ → Row) (t e : ℕ) (s a : Bytes) (h : Head) where
-  module _ (cc : CacheableCommand) where
-    pub single-inside : (key : Range) (x : ℕ) → cc ≡ Single key x → CommandIn (setupNow g) rows t e s a (commandOf s h) cc → RangeIn s key
-    single-inside key x q w = rw q at w
+-- ---- by the outcome as the code holds it
 
-    pub multiple-inside : (v : Several) (n x : ℕ) → cc ≡ Multiple v n x → CommandIn (setupNow g) rows t e s a (commandOf s h) cc
-        → SeveralIn s v × (n ≡ length (missing (placesNow g rows t e s v))) × (0 < n)
-    multiple-inside v n x q w = rw q at w
+-- the keys that are read from f are those that wait on the rows
+abbrev pub KeysHeld : Settings → (ℕ → Row) → ℕ → ℕ → Bytes → Bytes → Source → Several → Type 0
+KeysHeld g rows t e s src f v = (keysAt src f (v .keys) ≡ keysOf (missing (placesNow g rows t e s v))) × KeysIn src f (v .keys)
 
-    pub packs-single : (key : Range) (x : ℕ) → cc ≡ Single key x → packsBytes g rows t e s a h cc ≡ singleBytes s h key
-    unfolding packs wholeKey itself
-    packs-single key x q =
-        rw q (sent-more (pttlTexts (rangeBytes s key)) _ ∙ ap (λ (z : Bytes). packed (pttlTexts (rangeBytes s key)) ++ z) (sent-one _))
+abbrev CommandHolds : Settings → (ℕ → Row) → ℕ → ℕ → Bytes → Bytes → Source → CacheableCommand → Type 0
+CommandHolds g rows t e s src f (Single key x) = Unit {0}
+CommandHolds g rows t e s src f (Multiple v n x) = KeysHeld g rows t e s src f v
 
-    pub packs-multiple : (v : Several) (n x : ℕ) → cc ≡ Multiple v n x → SeveralIn s v → n ≡ length (missing (placesNow g rows t e s v)) → 0 < n
-        → packsBytes g rows t e s a h cc ≡ severalBytes g rows t e s v n
-    unfolding packs
-    packs-multiple v n x q w k p =
-        let ps = placesNow g rows t e s v in
-        rw q
-        (sent-more _ _
-        ∙ ap₂ (λ (y z : Bytes). y ++ z) (get-pieces g rows t e s v n w (some-keys g rows t e s v (omega arith)) k) (sent-packed (pttls (keysOf (missing ps))) ∙ sym (pttls-are ps)))
+abbrev ItemHolds : Settings → (ℕ → Row) → ℕ → ℕ → Bytes → Bytes → Source → PrepCacheItem → Type 0
+ItemHolds g rows t e s src f (Cached b) = Unit {0}
+ItemHolds g rows t e s src f (NotCached cc) = CommandHolds g rows t e s src f cc
+ItemHolds g rows t e s src f NotCacheable = Unit {0}
 
-    -- `CLIENT CACHING YES` first
-    pub caching-first : commandSent g rows t e s a h cc ≡ cachingBytes (g .mode) ++ packsBytes g rows t e s a h cc
-    caching-first = opt-in (g .mode) (packs (commandOf s h) (commandFor (setupNow g) rows t e s a (commandOf s h) cc))
+abbrev pub Holds : Settings → (ℕ → Row) → ℕ → ℕ → Bytes → Bytes → Source → CachingResult → Type 0
+Holds g rows t e s src f (Item i) = ItemHolds g rows t e s src f i
+Holds g rows t e s src f Ignored = Unit {0}
 
-  module _ (r : CachingResult) where
-    pub sent-ignored : r ≡ Ignored → sentFor g rows t e s a h r ≡ ownBytes s h
-    unfolding sends itself
-    sent-ignored q = rw q (sent-one _)
+-- so what is sent for it is planning's
+module _ (m : CacheMode) (g : Settings) (rows : ℕ → Row) (t e : ℕ) (s a : Bytes) (h : Head) (src : Bytes) (f : Source) (l : length s ≤ maxBytes) where
+  abbrev c : Command
+  c = commandOf s h
 
-    module _ (i : PrepCacheItem) (is : r ≡ Item i) where
-      pub sent-not-cacheable : i ≡ NotCacheable → sentFor g rows t e s a h r ≡ ownBytes s h
-      unfolding sends itself
-      sent-not-cacheable q = rw (is, q) (sent-one _)
-
-      pub sent-cached : (b : Served) → i ≡ Cached b → sentFor g rows t e s a h r ≡ []
-      unfolding sends
-      sent-cached b q = rw (is, q) (sent-packed [])
-
-      pub sent-missing : (cc : CacheableCommand) → i ≡ NotCached cc → sentFor g rows t e s a h r ≡ commandSent g rows t e s a h cc
-      unfolding sends
-      sent-missing cc q = rw (is, q)
-
-      pub command-inside : (cc : CacheableCommand) → i ≡ NotCached cc → ResultIn (setupNow g) rows t e s a (commandOf s h) r → CommandIn (setupNow g) rows t e s a (commandOf s h) cc
-      command-inside cc q w = rw (is, q) at w
+  pub sent-held : (r : CachingResult) → ResultIn (setupNow g) rows t e s a c r → Holds g rows t e s src f r
+      → (sentAs m c (resultOf (setupNow g) rows t e s a c r) ≡ sentWith m s h src f r) × ResultSends s src f r
+  sent-held Ignored i k = (own-ignored m s h, tt)
+  sent-held (Item NotCacheable) i k = (own-not-cacheable m s h, tt)
+  sent-held (Item (Cached b)) i k = (none-cached m c (servedOf (setupNow g) rows t e s a c b), tt)
+  sent-held (Item (NotCached (Single key x))) i k =
+      (packs-missing m c (plan.single (wholeKey c (rangeBytes s key)) x) ∙ ap (λ (z : Bytes). cachingBytes m ++ z) (packs-one s h key x), i)
+  sent-held (Item (NotCached (Multiple v n x))) i k =
+      let ps = placesNow g rows t e s v in
+      let b = few-missing g rows t e s v n (i .0) (i .1) in
+      let o = i .2 in
+      let d = i .1 in
+      let y = some-keys g rows t e s v (omega arith) in (
+        packs-missing m c (plan.multiple (severalName (v .json)) ps (pathIn s v) x)
+            ∙ ap (λ (z : Bytes). cachingBytes m ++ z) (packs-several c s v ps n x (i .0) y d ∙ ap (severalWith s v n) (sym (k .0))),
+        (i .0, y, omega arith, k .1),
+      )

@@ -1,15 +1,15 @@
 // What is sent for one command, from its outcome; after `pack_command` (caching/cmd.rs): nothing where it is cached; itself where it is ignored or not
 // cacheable; otherwise `CLIENT CACHING YES` in opt-in mode, and then `PTTL` and the command, or the name with the missing keys and the path and a `PTTL` for
-// each. specs/Sends.antt says which bytes those are. For several keys each place is peeked again (crate several_keys).
+// each. specs/Sends.antt says which bytes those are. Keys of several that wait are read from their nodes in the plan, or from the record (crate several_keys).
 use ask::Several;
 use cached_cmd::CacheableCommand;
 use cached_cmd::CachingResult;
 use cached_cmd::PrepCacheItem;
 use config::CacheMode;
-use config::Settings;
 use cursor::Head;
 use cursor::Range;
 use several_keys::Piece;
+use several_keys::Source;
 ghost use mathlib.Core.Path.{_≡_};
 ghost use Prim.Native.Nat.{_+_, _≤_, _<_};
 ghost use lib.ListN.{length};
@@ -18,9 +18,8 @@ ghost use Rattle.cursor.specs.At.{RangeIn, ArgsHere};
 ghost use Rattle.cmd.specs.Pack.{blob, blobBytes};
 ghost use Rattle.cmd.specs.Laws.{Wrote};
 ghost use Rattle.ask.specs.Asked.{severalName, pathIn, SeveralIn};
-ghost use Rattle.sharded_lru.specs.Lent.{Arena};
-ghost use Rattle.several_keys.specs.Pieces.{Inside, Fits, Puts};
-ghost use Rattle.pack_command.specs.Sends.{cachingBytes, halfBytes, singleBytes, argumentCount, getName, getBytes, severalBytes, commandSent, CommandInside, sentFor};
+ghost use Rattle.several_keys.specs.Source.{keysAt, KeysIn};
+ghost use Rattle.pack_command.specs.Sends.{cachingBytes, halfBytes, singleBytes, argumentCount, getName, getWith, severalWith, commandWith, CommandSends, sentWith, ResultSends};
 
 // `CLIENT CACHING YES`, in opt-in mode.
 fn write_opt_in(dst: &mut [u8], to: usize, mode: CacheMode) -> usize
@@ -110,17 +109,15 @@ fn write_keys(
     bytes: &[u8],
     v: Several,
     n: usize,
-    arena: &[u8],
-    g: Settings,
-    clock: u64,
-    epoch: u64,
+    src: &[u8],
+    from: Source,
 ) -> usize
-    requires { ⌜ SeveralIn (now bytes) v × (length (now bytes) ≤ maxBytes) × Arena g (now arena) × (0 < v .keys) × (n ≤ maxBytes) × Fits g (now arena) (λ rows. getBytes g rows clock epoch (now bytes) v n) to (length (now dst)) ⌝ }
-    ensures { λ r. ⌜ Puts g (now (arena .entry)) (λ rows. getBytes g rows clock epoch (now (bytes .entry)) v n) (now (dst .entry)) to (now (dst .exit)) r ⌝ }
+    requires { ⌜ SeveralIn (now bytes) v × (0 < v .keys) × (n ≤ maxBytes) × KeysIn (now src) from (v .keys) × (to + length (getWith (now bytes) v n (keysAt (now src) from (v .keys))) ≤ length (now dst)) ⌝ }
+    ensures { λ r. ⌜ Wrote (now (dst .entry)) to (getWith (now (bytes .entry)) v n (keysAt (now (src .entry)) from (v .keys))) (now (dst .exit)) r ⌝ }
 {
     let first = write_get(dst, to, v.json, n);
     let what = Piece::Key;
-    let next = several_keys::write_places(dst, first, what, bytes, v, arena, g, clock, epoch);
+    let next = several_keys::write_waiting(dst, first, what, src, from, v.keys);
     write_path(dst, next, bytes, v)
 }
 
@@ -131,41 +128,35 @@ fn write_several(
     bytes: &[u8],
     v: Several,
     n: usize,
-    arena: &[u8],
-    g: Settings,
-    clock: u64,
-    epoch: u64,
+    src: &[u8],
+    from: Source,
 ) -> usize
-    requires { ⌜ SeveralIn (now bytes) v × (length (now bytes) ≤ maxBytes) × Arena g (now arena) × (0 < v .keys) × (n ≤ maxBytes) × Fits g (now arena) (λ rows. severalBytes g rows clock epoch (now bytes) v n) to (length (now dst)) ⌝ }
-    ensures { λ r. ⌜ Puts g (now (arena .entry)) (λ rows. severalBytes g rows clock epoch (now (bytes .entry)) v n) (now (dst .entry)) to (now (dst .exit)) r ⌝ }
+    requires { ⌜ SeveralIn (now bytes) v × (0 < v .keys) × (n ≤ maxBytes) × KeysIn (now src) from (v .keys) × (to + length (severalWith (now bytes) v n (keysAt (now src) from (v .keys))) ≤ length (now dst)) ⌝ }
+    ensures { λ r. ⌜ Wrote (now (dst .entry)) to (severalWith (now (bytes .entry)) v n (keysAt (now (src .entry)) from (v .keys))) (now (dst .exit)) r ⌝ }
 {
-    let next = write_keys(dst, to, bytes, v, n, arena, g, clock, epoch);
+    let next = write_keys(dst, to, bytes, v, n, src, from);
     let what = Piece::Pttl;
-    several_keys::write_places(dst, next, what, bytes, v, arena, g, clock, epoch)
+    several_keys::write_waiting(dst, next, what, src, from, v.keys)
 }
 
-// For what is missing: in opt-in mode `CLIENT CACHING YES` first.
+// For what is missing: in opt-in mode `CLIENT CACHING YES` first. The keys of several that wait are read from `from` on.
 pub fn pack_command(
     dst: &mut [u8],
     to: usize,
     bytes: &[u8],
     head: Head,
     cc: CacheableCommand,
-    arena: &[u8],
-    g: Settings,
-    clock: u64,
-    epoch: u64,
+    mode: CacheMode,
+    src: &[u8],
+    from: Source,
 ) -> usize
-    requires { ⌜ ArgsHere (now bytes) (head .args) × (length (now bytes) ≤ maxBytes) × Arena g (now arena) × CommandInside g (now arena) clock epoch (now bytes) head cc × Fits g (now arena) (λ rows. commandSent g rows clock epoch (now bytes) (now arena) head cc) to (length (now dst)) ⌝ }
-    ensures { λ r. ⌜ Puts g (now (arena .entry)) (λ rows. commandSent g rows clock epoch (now (bytes .entry)) (now (arena .entry)) head cc) (now (dst .entry)) to (now (dst .exit)) r ⌝ }
+    requires { ⌜ ArgsHere (now bytes) (head .args) × CommandSends (now bytes) (now src) from cc × (to + length (commandWith mode (now bytes) head (now src) from cc) ≤ length (now dst)) ⌝ }
+    ensures { λ r. ⌜ Wrote (now (dst .entry)) to (commandWith mode (now (bytes .entry)) head (now (src .entry)) from cc) (now (dst .exit)) r ⌝ }
 {
-    let mode = g.mode;
     let next = write_opt_in(dst, to, mode);
     match cc {
         CacheableCommand::Single(key, _) => write_single(dst, next, bytes, head, key),
-        CacheableCommand::Multiple(v, n, _) => {
-            write_several(dst, next, bytes, v, n, arena, g, clock, epoch)
-        }
+        CacheableCommand::Multiple(v, n, _) => write_several(dst, next, bytes, v, n, src, from),
     }
 }
 
@@ -176,13 +167,12 @@ pub fn write_sent(
     bytes: &[u8],
     head: Head,
     r: CachingResult,
-    arena: &[u8],
-    g: Settings,
-    clock: u64,
-    epoch: u64,
+    mode: CacheMode,
+    src: &[u8],
+    from: Source,
 ) -> usize
-    requires { ⌜ ArgsHere (now bytes) (head .args) × (length (now bytes) ≤ maxBytes) × Arena g (now arena) × Inside g (now arena) clock epoch (now bytes) head r × Fits g (now arena) (λ rows. sentFor g rows clock epoch (now bytes) (now arena) head r) to (length (now dst)) ⌝ }
-    ensures { λ n. ⌜ Puts g (now (arena .entry)) (λ rows. sentFor g rows clock epoch (now (bytes .entry)) (now (arena .entry)) head r) (now (dst .entry)) to (now (dst .exit)) n ⌝ }
+    requires { ⌜ ArgsHere (now bytes) (head .args) × ResultSends (now bytes) (now src) from r × (to + length (sentWith mode (now bytes) head (now src) from r) ≤ length (now dst)) ⌝ }
+    ensures { λ n. ⌜ Wrote (now (dst .entry)) to (sentWith mode (now (bytes .entry)) head (now (src .entry)) from r) (now (dst .exit)) n ⌝ }
 {
     let args = head.args;
     match r {
@@ -190,7 +180,7 @@ pub fn write_sent(
         CachingResult::Item(i) => match i {
             PrepCacheItem::Cached(_) => to,
             PrepCacheItem::NotCached(cc) => {
-                pack_command(dst, to, bytes, head, cc, arena, g, clock, epoch)
+                pack_command(dst, to, bytes, head, cc, mode, src, from)
             }
             PrepCacheItem::NotCacheable => { cmd::write_command(bytes, args, head.cursor, dst, to) }
         },

@@ -33,11 +33,6 @@ caching-none m q = (sym (ap length (caching-all m q)), omega arith)
 pub caching-length : (m : CacheMode) → m ≡ OptIn → (38 ≡ length (cachingBytes m)) × (38 ≤ 38)
 caching-length m q = (sym (ap length (caching-opt-in m q ∙ caching-is)), omega arith)
 
--- how many commands that is
-abbrev pub optInCount : CacheMode → ℕ
-optInCount All = 0
-optInCount OptIn = 1
-
 -- ---- a command of the record
 
 -- each argument has at most 45 bytes more than of its own

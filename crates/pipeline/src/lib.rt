@@ -1,33 +1,27 @@
 // Around what is sent for each command; after `write_pipeline` (pipeline.rs): how long it is and how many commands it is, and `MULTI` and `EXEC` around a
-// transaction. What is sent for one command is crate pack_command; specs/Lengths.antt and specs/Wrapped.antt have the laws.
+// transaction. What is sent for one command is crate pack_command; specs/Lengths.antt, specs/Counts.antt and specs/Wrapped.antt have the laws.
 use ask::Several;
 use cached_cmd::CacheableCommand;
 use cached_cmd::CachingResult;
 use cached_cmd::PrepCacheItem;
 use config::CacheMode;
-use config::Settings;
 use cursor::Head;
 use cursor::Range;
 use several_keys::Measured;
 ghost use mathlib.Core.Path.{_≡_};
 ghost use mathlib.Core.List.{List};
-ghost use Prim.Native.Nat.{ℕ, _+_, _^_, _≤_, _<_};
+ghost use Prim.Native.Nat.{_+_, _^_, _≤_, _<_};
 ghost use lib.ListN.{length};
 ghost use Rattle.buffer.specs.Same.{Bytes};
 ghost use Rattle.config.specs.Limits.{maxBytes, maxArguments};
-ghost use Rattle.cursor.specs.At.{RangeIn, ArgsHere, commandOf};
+ghost use Rattle.cursor.specs.At.{RangeIn, ArgsHere};
 ghost use Rattle.cmd.specs.Pack.{blob, blobBytes};
 ghost use Rattle.cmd.specs.Laws.{Wrote};
-ghost use Rattle.book.specs.Book.{Row};
-ghost use Rattle.planning.specs.Sent.{packs, sends};
 ghost use Rattle.ask.specs.Asked.{severalName, pathIn, SeveralIn};
-ghost use Rattle.sharded_lru.specs.Lent.{Lent, Arena, setupNow};
-ghost use Rattle.cached_cmd.specs.Result.{commandFor, resultOf};
-ghost use Rattle.several_keys.specs.Pieces.{Inside};
 ghost use Rattle.several_keys.specs.Measure.{Bounded};
-ghost use Rattle.pack_command.specs.Sends.{cachingBytes, ownBytes, singleBytes, getName, severalWith, CommandInside};
+ghost use Rattle.pack_command.specs.Sends.{cachingBytes, ownBytes, singleBytes, getName, severalWith};
 ghost use Rattle.pipeline.specs.Wrapped.{startBytes, endBytes};
-ghost use Rattle.pipeline.specs.Lengths.{optInCount};
+ghost use Rattle.pipeline.specs.Counts.{optInCount, CommandFew, packsCount, ResultFew, countWith};
 
 // How long `CLIENT CACHING YES` is, in opt-in mode.
 pub fn opt_in_len(mode: CacheMode) -> usize
@@ -105,17 +99,9 @@ fn opt_in_count(mode: CacheMode) -> usize
 }
 
 // How many commands what is missing is.
-fn packs_count(
-    bytes: &[u8],
-    head: Head,
-    cc: CacheableCommand,
-    arena: &[u8],
-    g: Settings,
-    clock: u64,
-    epoch: u64,
-) -> usize
-    requires { ⌜ (length (now bytes) ≤ maxBytes) × Arena g (now arena) × CommandInside g (now arena) clock epoch (now bytes) head cc ⌝ }
-    ensures { λ r. ⌜ ((rows : ℕ → Row) → Lent g (now (arena .entry)) rows → r ≡ length (packs (commandOf (now (bytes .entry)) head) (commandFor (setupNow g) rows clock epoch (now (bytes .entry)) (now (arena .entry)) (commandOf (now (bytes .entry)) head) cc))) × (r ≤ 2 ^ 25) ⌝ }
+fn packs_count(cc: CacheableCommand) -> usize
+    requires { ⌜ CommandFew cc ⌝ }
+    ensures { λ r. ⌜ (r ≡ packsCount cc) × (r ≤ 2 ^ 25) ⌝ }
 {
     match cc {
         CacheableCommand::Single(_, _) => 2,
@@ -124,26 +110,15 @@ fn packs_count(
 }
 
 // How many commands are sent for a command.
-pub fn sent_count(
-    bytes: &[u8],
-    head: Head,
-    r: CachingResult,
-    arena: &[u8],
-    g: Settings,
-    clock: u64,
-    epoch: u64,
-) -> usize
-    requires { ⌜ (length (now bytes) ≤ maxBytes) × Arena g (now arena) × Inside g (now arena) clock epoch (now bytes) head r ⌝ }
-    ensures { λ n. ⌜ ((rows : ℕ → Row) → Lent g (now (arena .entry)) rows → n ≡ length (sends (g .mode) (commandOf (now (bytes .entry)) head) (resultOf (setupNow g) rows clock epoch (now (bytes .entry)) (now (arena .entry)) (commandOf (now (bytes .entry)) head) r))) × (n ≤ 2 ^ 26) ⌝ }
+pub fn sent_count(r: CachingResult, mode: CacheMode) -> usize
+    requires { ⌜ ResultFew r ⌝ }
+    ensures { λ n. ⌜ (n ≡ countWith mode r) × (n ≤ 2 ^ 26) ⌝ }
 {
-    let mode = g.mode;
     match r {
         CachingResult::Ignored => 1,
         CachingResult::Item(i) => match i {
             PrepCacheItem::Cached(_) => 0,
-            PrepCacheItem::NotCached(cc) => {
-                opt_in_count(mode) + packs_count(bytes, head, cc, arena, g, clock, epoch)
-            }
+            PrepCacheItem::NotCached(cc) => opt_in_count(mode) + packs_count(cc),
             PrepCacheItem::NotCacheable => 1,
         },
     }

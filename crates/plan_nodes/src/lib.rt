@@ -1,5 +1,6 @@
-// A command's nodes in the plan, from its outcome, written at a place. The outcome is what `get_cached_cmd` tells of the command; for
-// several keys each place is peeked again (crate several_keys). specs/Nodes.antt says which bytes those are.
+// A command's keys looked up, each one's node written to the plan as it is found, and the outcome; after `get_cached_cmd` (cache_manager.rs). Each key is
+// searched once. specs/Prepared.antt says what it comes to.
+use ask::Asked;
 use ask::Several;
 use cached_cmd::CacheableCommand;
 use cached_cmd::CachingResult;
@@ -9,109 +10,260 @@ use command_key::CommandKey;
 use config::Settings;
 use cursor::Head;
 use cursor::Range;
-use several_keys::Piece;
-ghost use Prim.Native.Nat.{_+_, _≤_};
+use shard_lookup::Looked;
+use statistics::Statistics;
+ghost use Prim.Native.Nat.{ℕ, _+_, _^_, _≤_, _<_};
 ghost use lib.ListN.{length};
+ghost use mathlib.Core.List.{[], _∷_};
 ghost use Rattle.config.specs.Limits.{maxBytes};
-ghost use Rattle.cursor.specs.At.{RangeIn, ArgsHere};
-ghost use Rattle.cmd.specs.Laws.{Wrote};
-ghost use Rattle.ask.specs.Asked.{SeveralIn};
-ghost use Rattle.sharded_lru.specs.Lent.{Arena};
-ghost use Rattle.several_keys.specs.Pieces.{Inside, Fits, Puts};
-ghost use Rattle.plan_nodes.specs.Nodes.{nodesFor, singleNode, counted, severalNodes};
+ghost use Rattle.format.specs.Runs.{encAll};
+ghost use Rattle.call_record.specs.Record.{Command};
+ghost use Rattle.cursor.specs.At.{rangeBytes, RangeIn, ArgsHere, commandOf};
+ghost use Rattle.book.specs.Book.{Row};
+ghost use Rattle.planning.specs.Ask as asks;
+ghost use Rattle.planning.specs.Outcome.{ignored, item, notCacheable, singleItem, wholeKey, wants};
+ghost use Rattle.planning.specs.Plan.{placeNodes, encNode};
+ghost use Rattle.ask.specs.Asked.{wantedIn, SeveralIn, OnTime};
+ghost use Rattle.sharded_lru.specs.Lent.{setupNow, Lent, Arena};
+ghost use Rattle.cached_cmd.specs.Result.{placeOn, severalItem, outcomeFor};
+ghost use Rattle.look_up.specs.Looks.{Looks};
+ghost use Rattle.plan_sizes.specs.Nodes.{nodesAs};
+ghost use Rattle.several_keys.specs.Pieces.{wantAt, placesNow};
+ghost use Rattle.plan_nodes.specs.Places.{placeNode, Placed, Done};
+ghost use Rattle.plan_nodes.specs.Prepared.{Prepares};
 
-// The number of places, in a node of this kind, and the places.
-fn write_counted(
-    dst: &mut [u8],
-    to: usize,
-    kind: u32,
-    expiry: u64,
+// How far the places of several keys are written: where the next node goes, how many keys wait, and the counts.
+pub struct Written {
+    pub to: usize,
+    pub missing: usize,
+    pub counts: Statistics,
+}
+
+// A command's outcome, where the places of several keys begin, where its nodes end, and the counts after its lookups.
+pub struct Prepared {
+    pub result: CachingResult,
+    pub places: usize,
+    pub to: usize,
+    pub counts: Statistics,
+}
+
+// One of several keys.
+fn write_place(
+    plan: &mut [u8],
+    arena: &mut [u8],
     bytes: &[u8],
     v: Several,
-    arena: &[u8],
+    key: Range,
+    expiry: u64,
     g: Settings,
     clock: u64,
     epoch: u64,
-) -> usize
-    requires { ⌜ SeveralIn (now bytes) v × (length (now bytes) ≤ maxBytes) × Arena g (now arena) × Fits g (now arena) (λ rows. counted kind expiry g rows clock epoch (now bytes) v) to (length (now dst)) ⌝ }
-    ensures { λ r. ⌜ Puts g (now (arena .entry)) (λ rows. counted kind expiry g rows clock epoch (now (bytes .entry)) v) (now (dst .entry)) to (now (dst .exit)) r ⌝ }
+    x: Written,
+) -> Written
+    requires { ⌜ SeveralIn (now bytes) v × RangeIn (now bytes) key × (length (now bytes) ≤ maxBytes) × Arena g (now arena) × ((rows : ℕ → Row) → Lent g (now arena) rows → x .to + length (placeNode expiry (placeOn (setupNow g) rows clock epoch (wantAt (now bytes) v key))) ≤ length (now plan)) × (x .missing + 1 < 2 ^ 64) ⌝ }
+    ensures { λ r. ⌜ Placed g clock epoch expiry (wantAt (now (bytes .entry)) v key) (now (arena .entry)) (now (plan .entry)) x (now (arena .exit)) (now (plan .exit)) r ⌝ }
 {
-    let next = plan_write::write_bare(dst, to, kind, v.keys as u64);
-    let what = Piece::Node(expiry);
-    several_keys::write_places(dst, next, what, bytes, v, arena, g, clock, epoch)
+    let path = v.path;
+    let command = CommandKey::Named(v.json, key, path);
+    let before = x.counts;
+    let found = look_up::look_up_key(arena, bytes, key, command, g, clock, epoch, before);
+    let counts = found.counts;
+    let looked = found.looked;
+    match looked {
+        Looked::Hit { from, to } => Written {
+            to: plan_write::write_served(plan, x.to, &arena[from..to]),
+            missing: x.missing,
+            counts: counts,
+        },
+        Looked::Miss(_) => {
+            let text = cursor::bytes_in(bytes, key);
+            Written {
+                to: plan_write::write_missing(plan, x.to, 5, text, bytes, command, expiry),
+                missing: x.missing + 1,
+                counts: counts,
+            }
+        }
+    }
 }
 
-// Several keys of which some wait: the places, and their end.
+// Several keys, in their order.
+fn write_places(
+    plan: &mut [u8],
+    arena: &mut [u8],
+    bytes: &[u8],
+    v: Several,
+    expiry: u64,
+    g: Settings,
+    clock: u64,
+    epoch: u64,
+    x: Written,
+) -> Written
+    requires { ⌜ SeveralIn (now bytes) v × (length (now bytes) ≤ maxBytes) × Arena g (now arena) × ((rows : ℕ → Row) → Lent g (now arena) rows → x .to + length (encAll encNode (placeNodes expiry (placesNow g rows clock epoch (now bytes) v))) ≤ length (now plan)) × (x .missing ≤ maxBytes) ⌝ }
+    ensures { λ r. ⌜ Done g clock epoch expiry (now (bytes .entry)) v (now (arena .entry)) (now (plan .entry)) x (now (arena .exit)) (now (plan .exit)) r ⌝ }
+{
+    let mut k = v.args;
+    let mut left = v.keys;
+    let mut y = x;
+    while left > 0 {
+        let here = ask::next_key(bytes, k);
+        let key = here.key;
+        y = write_place(plan, arena, bytes, v, key, expiry, g, clock, epoch, y);
+        k = here.rest;
+        left -= 1;
+    }
+    y
+}
+
+// A command with several keys: their number, the places, and where some wait their end.
 fn write_several(
-    dst: &mut [u8],
+    plan: &mut [u8],
     to: usize,
-    expiry: u64,
+    arena: &mut [u8],
     bytes: &[u8],
     v: Several,
-    arena: &[u8],
+    expiry: u64,
     g: Settings,
     clock: u64,
     epoch: u64,
-) -> usize
-    requires { ⌜ SeveralIn (now bytes) v × (length (now bytes) ≤ maxBytes) × Arena g (now arena) × Fits g (now arena) (λ rows. severalNodes expiry g rows clock epoch (now bytes) v) to (length (now dst)) ⌝ }
-    ensures { λ r. ⌜ Puts g (now (arena .entry)) (λ rows. severalNodes expiry g rows clock epoch (now (bytes .entry)) v) (now (dst .entry)) to (now (dst .exit)) r ⌝ }
+    counts: Statistics,
+) -> Prepared
+    requires { ⌜ SeveralIn (now bytes) v × (length (now bytes) ≤ maxBytes) × Arena g (now arena) × ((rows : ℕ → Row) → Lent g (now arena) rows → to + length (nodesAs (item (severalItem (setupNow g) rows clock epoch (now bytes) v expiry))) ≤ length (now plan)) ⌝ }
+    ensures { λ r. ⌜ Looks g clock epoch (wantedIn (now (bytes .entry)) v) (now (arena .entry)) counts (now (arena .exit)) (r .counts) × ((rows : ℕ → Row) → Lent g (now (arena .entry)) rows → (c : Command) → Prepares g rows clock epoch (now (bytes .entry)) (now (arena .exit)) (now (plan .entry)) to (now (plan .exit)) c (item (severalItem (setupNow g) rows clock epoch (now (bytes .entry)) v expiry)) r) ⌝ }
 {
-    let next = write_counted(dst, to, 4, expiry, bytes, v, arena, g, clock, epoch);
-    plan_write::write_bare(dst, next, 6, 0)
+    let start = to + plan_write::NODE_HEAD;
+    let first = Written {
+        to: start,
+        missing: 0,
+        counts: counts,
+    };
+    let x = write_places(plan, arena, bytes, v, expiry, g, clock, epoch, first);
+    let after = x.counts;
+    if x.missing == 0 {
+        plan_write::write_bare(plan, to, 2, v.keys as u64);
+        Prepared {
+            result: CachingResult::Item(PrepCacheItem::Cached(Served::Values(v))),
+            places: start,
+            to: x.to,
+            counts: after,
+        }
+    } else {
+        plan_write::write_bare(plan, to, 4, v.keys as u64);
+        let end = plan_write::write_bare(plan, x.to, 6, 0);
+        Prepared {
+            result: CachingResult::Item(PrepCacheItem::NotCached(CacheableCommand::Multiple(
+                v,
+                x.missing,
+                expiry,
+            ))),
+            places: start,
+            to: end,
+            counts: after,
+        }
+    }
 }
 
-// One missing key.
-fn write_single(
-    dst: &mut [u8],
+// A command with one key.
+fn write_one(
+    plan: &mut [u8],
     to: usize,
+    arena: &mut [u8],
     bytes: &[u8],
     head: Head,
     key: Range,
     expiry: u64,
-) -> usize
-    requires { ⌜ ArgsHere (now bytes) (head .args) × RangeIn (now bytes) key × (length (now bytes) ≤ maxBytes) × (to + length (singleNode (now bytes) head key expiry) ≤ length (now dst)) ⌝ }
-    ensures { λ r. ⌜ Wrote (now (dst .entry)) to (singleNode (now (bytes .entry)) head key expiry) (now (dst .exit)) r ⌝ }
-{
-    let text = cursor::bytes_in(bytes, key);
-    let args = head.args;
-    plan_write::write_missing(dst, to, 3, text, bytes, CommandKey::Joined(args), expiry)
-}
-
-// A command's nodes.
-pub fn write_nodes(
-    dst: &mut [u8],
-    to: usize,
-    bytes: &[u8],
-    head: Head,
-    r: CachingResult,
-    arena: &[u8],
     g: Settings,
     clock: u64,
     epoch: u64,
-) -> usize
-    requires { ⌜ ArgsHere (now bytes) (head .args) × (length (now bytes) ≤ maxBytes) × Arena g (now arena) × Inside g (now arena) clock epoch (now bytes) head r × Fits g (now arena) (λ rows. nodesFor g rows clock epoch (now bytes) (now arena) head r) to (length (now dst)) ⌝ }
-    ensures { λ n. ⌜ Puts g (now (arena .entry)) (λ rows. nodesFor g rows clock epoch (now (bytes .entry)) (now (arena .entry)) head r) (now (dst .entry)) to (now (dst .exit)) n ⌝ }
+    counts: Statistics,
+) -> Prepared
+    requires { ⌜ ArgsHere (now bytes) (head .args) × RangeIn (now bytes) key × (length (now bytes) ≤ maxBytes) × Arena g (now arena) × ((rows : ℕ → Row) → Lent g (now arena) rows → to + length (nodesAs (item (singleItem (placeOn (setupNow g) rows clock epoch (wholeKey (commandOf (now bytes) head) (rangeBytes (now bytes) key))) expiry))) ≤ length (now plan)) ⌝ }
+    ensures { λ r. ⌜ Looks g clock epoch (wholeKey (commandOf (now (bytes .entry)) head) (rangeBytes (now (bytes .entry)) key) ∷ []) (now (arena .entry)) counts (now (arena .exit)) (r .counts) × ((rows : ℕ → Row) → Lent g (now (arena .entry)) rows → Prepares g rows clock epoch (now (bytes .entry)) (now (arena .exit)) (now (plan .entry)) to (now (plan .exit)) (commandOf (now (bytes .entry)) head) (item (singleItem (placeOn (setupNow g) rows clock epoch (wholeKey (commandOf (now (bytes .entry)) head) (rangeBytes (now (bytes .entry)) key))) expiry)) r) ⌝ }
 {
-    match r {
-        CachingResult::Ignored => plan_write::write_bare(dst, to, 0, 0),
-        CachingResult::Item(i) => match i {
-            PrepCacheItem::NotCacheable => plan_write::write_bare(dst, to, 0, 0),
-            PrepCacheItem::Cached(b) => match b {
-                Served::Value(at) => {
-                    plan_write::write_served(dst, to, cursor::bytes_in(arena, at))
-                }
-                Served::Values(v) => {
-                    write_counted(dst, to, 2, 0, bytes, v, arena, g, clock, epoch)
-                }
-            },
-            PrepCacheItem::NotCached(cc) => match cc {
-                CacheableCommand::Single(key, expiry) => {
-                    write_single(dst, to, bytes, head, key, expiry)
-                }
-                CacheableCommand::Multiple(v, _, expiry) => {
-                    write_several(dst, to, expiry, bytes, v, arena, g, clock, epoch)
-                }
-            },
+    let args = head.args;
+    let command = CommandKey::Joined(args);
+    let found = look_up::look_up_key(arena, bytes, key, command, g, clock, epoch, counts);
+    let after = found.counts;
+    let looked = found.looked;
+    match looked {
+        Looked::Hit { from, to: end } => {
+            let value = Range {
+                start: from,
+                end: end,
+            };
+            Prepared {
+                result: CachingResult::Item(PrepCacheItem::Cached(Served::Value(value))),
+                places: to,
+                to: plan_write::write_served(plan, to, &arena[from..end]),
+                counts: after,
+            }
+        }
+        Looked::Miss(_) => {
+            let text = cursor::bytes_in(bytes, key);
+            Prepared {
+                result: CachingResult::Item(PrepCacheItem::NotCached(CacheableCommand::Single(
+                    key,
+                    expiry,
+                ))),
+                places: to,
+                to: plan_write::write_missing(plan, to, 3, text, bytes, command, expiry),
+                counts: after,
+            }
+        }
+    }
+}
+
+// A command, by what it asks for.
+pub fn get_cached_cmd(
+    plan: &mut [u8],
+    to: usize,
+    arena: &mut [u8],
+    bytes: &[u8],
+    head: Head,
+    g: Settings,
+    clock: u64,
+    epoch: u64,
+    counts: Statistics,
+) -> Prepared
+    requires { ⌜ ArgsHere (now bytes) (head .args) × OnTime g clock (commandOf (now bytes) head) × (length (now bytes) ≤ maxBytes) × Arena g (now arena) × ((rows : ℕ → Row) → Lent g (now arena) rows → to + length (nodesAs (outcomeFor (setupNow g) rows clock epoch g (commandOf (now bytes) head))) ≤ length (now plan)) ⌝ }
+    ensures { λ r. ⌜ Looks g clock epoch (wants (commandOf (now (bytes .entry)) head) (asks.ask g clock (commandOf (now (bytes .entry)) head))) (now (arena .entry)) counts (now (arena .exit)) (r .counts) × ((rows : ℕ → Row) → Lent g (now (arena .entry)) rows → Prepares g rows clock epoch (now (bytes .entry)) (now (arena .exit)) (now (plan .entry)) to (now (plan .exit)) (commandOf (now (bytes .entry)) head) (outcomeFor (setupNow g) rows clock epoch g (commandOf (now (bytes .entry)) head)) r) ⌝ }
+{
+    match ask::ask(bytes, head, g, clock) {
+        Asked::Nothing => Prepared {
+            result: CachingResult::Ignored,
+            places: to,
+            to: plan_write::write_bare(plan, to, 0, 0),
+            counts: counts,
         },
+        Asked::Uncacheable => Prepared {
+            result: CachingResult::Item(PrepCacheItem::NotCacheable),
+            places: to,
+            to: plan_write::write_bare(plan, to, 0, 0),
+            counts: counts,
+        },
+        Asked::OneKey(key, expiry) => write_one(
+            plan,
+            to,
+            arena,
+            bytes,
+            head,
+            key,
+            expiry,
+            g,
+            clock,
+            epoch,
+            counts,
+        ),
+        Asked::SeveralKeys(v, expiry) => write_several(
+            plan,
+            to,
+            arena,
+            bytes,
+            v,
+            expiry,
+            g,
+            clock,
+            epoch,
+            counts,
+        ),
     }
 }

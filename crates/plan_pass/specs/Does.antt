@@ -14,21 +14,14 @@ use Rattle.book.specs.Calls.{Wanted, lookups, ons}
 use Rattle.planning.specs.Ask.{ask}
 use Rattle.planning.specs.Outcome.{wants, wanted}
 use Rattle.planning.specs.Sent.{sends}
-use Rattle.resp3.specs.Ends.{isValue}
-use Rattle.arena.specs.Image.{encode-injective}
-use Rattle.sharded_lru.specs.Laws.{sized}
 use Rattle.plan_write.specs.Wrote.{wrote-none, wrote-both, wrote-long, room-first, room-second}
 use Rattle.sharded_lru.specs.Lent.{setupNow, Lent, Arena}
 use Rattle.cached_cmd.specs.Result.{outcomeFor}
 use Rattle.plan_sizes.specs.Sizes.{nodesFor, sentFor, allNodes, allSent, sentCount}
 use Rattle.look_up.specs.Looks.{countsOf, Keeps, Looks, looks-none}
+use Rattle.look_up.specs.Finds.{lent-same}
 use Rattle.plan_pass.specs.Unseen.{afterLookups, nodes-after, sent-after, count-after}
 use Rattle.plan_pass.specs.declared.Progress.{Progress}
-
--- an arena holds one book's rows
-lent-same : {g : Settings} {a : Bytes} {x y : ℕ → Row} → Lent g a x → Lent g a y → x ≡ y
-lent-same {g} {a} {x} {y} v w =
-    encode-injective isValue (setupNow g) (length a) (sized g a x v) x y (v .image .formed) (w .image .formed) (v .image .bytes ∙ sym (w .image .bytes))
 
 -- what is written and looked up, from one state to another: these nodes, these bytes sent, so many commands, these lookups
 pub record Step (g : Settings) (t e : ℕ) (nodes sent : (ℕ → Row) → Bytes) (number : (ℕ → Row) → ℕ) (ws : List Wanted)

@@ -1,3 +1,4 @@
 pub mod Unseen
 pub mod Does
 pub mod Going
+pub mod Prepares

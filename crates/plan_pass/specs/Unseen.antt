@@ -5,9 +5,9 @@ use Prim.Native.Nat.{ℕ, _+_}
 use lib.ListN.{length}
 use Rattle.config.specs.declared.Settings.{Settings}
 use Rattle.call_record.specs.Record.{Command}
-use Rattle.book.specs.Book.{Setup, Book, lookup, on, after, afterAll, answers}
+use Rattle.book.specs.Book.{Setup, Book, lookup, on, after, afterAll}
 use Rattle.book.specs.Calls.{Wanted, lookups, ons}
-use Rattle.book.specs.Lookups.{dry, planned}
+use Rattle.book.specs.Lookups.{dry}
 use Rattle.planning.specs.Ask.{ask}
 use Rattle.planning.specs.Outcome as plan
 use Rattle.planning.specs.Sent.{sends, sentBytes}
@@ -16,17 +16,10 @@ use Rattle.format.specs.Runs.{encAll}
 use Rattle.planning.specs.Passes.{outcomeOn}
 use Rattle.cached_cmd.specs.Result.{outcomeFor}
 use Rattle.cached_cmd.specs.Places.{outcome-on}
+use Rattle.look_up.specs.Finds.{dry-one}
 use Rattle.plan_sizes.specs.Sizes.{allNodes, allSent, sentCount}
 
 module _ (p : Setup) (t e : ℕ) where
-  -- one lookup
-  dry-one : (w : Wanted) (bk : Book) (vs : List Wanted) → dry p (after p (on (lookup (w .key) (w .command) t e)) bk) t e vs ≡ dry p bk t e vs
-  unfolding answers ons lookups dry
-  dry-one w bk vs =
-      let x = planned p t e (w ∷ vs) bk in
-      let y : answers p (ons (lookups t e vs)) (after p (on (lookup (w .key) (w .command) t e)) bk) ≡ dry p bk t e vs = cc in
-      sym (planned p t e vs (after p (on (lookup (w .key) (w .command) t e)) bk)) ∙ y
-
   -- the book after some
   abbrev pub afterLookups : List Wanted → Book → Book
   afterLookups ws bk = afterAll p (ons (lookups t e ws)) bk
@@ -34,7 +27,7 @@ module _ (p : Setup) (t e : ℕ) where
   dry-after : (ws : List Wanted) (bk : Book) (vs : List Wanted) → dry p (afterLookups ws bk) t e vs ≡ dry p bk t e vs
   unfolding afterAll ons lookups
   dry-after [] bk vs = refl
-  dry-after (w ∷ ws) bk vs = dry-after ws (after p (on (lookup (w .key) (w .command) t e)) bk) vs ∙ dry-one w bk vs
+  dry-after (w ∷ ws) bk vs = dry-after ws (after p (on (lookup (w .key) (w .command) t e)) bk) vs ∙ dry-one p t e w bk vs
 
   module _ (g : Settings) (ws : List Wanted) (bk : Book) where
     -- a command's outcome

@@ -1,8 +1,9 @@
-// The second pass of planning: each command's nodes and what is sent for it are written, and then its lookups are done. That it writes what the dry pass
-// has measured is specs/Unseen.antt: a planning's lookups change no command's outcome.
+// The second pass of planning: each command's keys are looked up and its nodes written as they are found (crate plan_nodes), and then what is sent for it, its
+// missing keys read from those nodes. That this is what the dry pass has measured is specs/Unseen.antt: a planning's lookups change no command's outcome.
 use config::Settings;
 use cursor::Commands;
 use cursor::Head;
+use several_keys::Source;
 use statistics::Statistics;
 ghost use Prim.Native.Nat.{ℕ, _+_, _*_, _^_, _≤_, _<_};
 ghost use lib.ListN.{length};
@@ -37,14 +38,16 @@ fn plan_command(
     requires { ⌜ dry.One g clock (now bytes) head × (length (now bytes) ≤ maxBytes) × Arena g (now arena) × ((rows : ℕ → Row) → Lent g (now arena) rows → x .to + length (nodesFor (setupNow g) rows clock epoch g (commandOf (now bytes) head)) ≤ length (now plan)) × ((rows : ℕ → Row) → Lent g (now arena) rows → x .from + length (sentFor (setupNow g) rows clock epoch g (commandOf (now bytes) head)) ≤ length (now send)) × (x .sent + 2 ^ 26 < 2 ^ 64) ⌝ }
     ensures { λ r. ⌜ One g clock epoch (commandOf (now (bytes .entry)) head) (now (arena .entry)) (now (plan .entry)) (now (send .entry)) x (now (arena .exit)) (now (plan .exit)) (now (send .exit)) r × (r .sent ≤ x .sent + 2 ^ 26) ⌝ }
 {
-    let result = cached_cmd::get_cached_cmd(bytes, head, arena, g, clock, epoch);
-    let to = plan_nodes::write_nodes(plan, x.to, bytes, head, result, arena, g, clock, epoch);
-    let from = pack_command::write_sent(send, x.from, bytes, head, result, arena, g, clock, epoch);
-    let n = pipeline::sent_count(bytes, head, result, arena, g, clock, epoch);
     let before = x.counts;
-    let counts = look_up::look_up(arena, bytes, head, g, clock, epoch, before);
+    let p = plan_nodes::get_cached_cmd(plan, x.to, arena, bytes, head, g, clock, epoch, before);
+    let result = p.result;
+    let mode = g.mode;
+    let places = Source::Nodes(p.places);
+    let from = pack_command::write_sent(send, x.from, bytes, head, result, mode, plan, places);
+    let n = pipeline::sent_count(result, mode);
+    let counts = p.counts;
     Progress {
-        to: to,
+        to: p.to,
         from: from,
         sent: x.sent + n,
         counts: counts,

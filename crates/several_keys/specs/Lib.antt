@@ -1,4 +1,4 @@
 pub mod Pieces
-pub mod Each
 pub mod Steps
 pub mod Measure
+pub mod Source

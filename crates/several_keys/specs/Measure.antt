@@ -1,13 +1,13 @@
 -- What the places of a several-key command take, measured place by place: how many wait, how many bytes their nodes take, and how many the keys that wait
 -- take as blobs. Assumes nothing.
 -- Letters: m what was measured, q a place, s the record's bytes, a the arena's, v several keys, w a key with its command key.
-use mathlib.Core.Path.{_≡_, refl, sym, ap, ap₂, _∙_}
+use mathlib.Core.Path.{_≡_, sym, ap}
 use mathlib.Core.List.{List, [], _∷_, _++_}
-use Prim.Native.Nat.{ℕ, _+_, _-_, _*_, _^_, _≤_}
+use Prim.Native.Nat.{ℕ, _+_, _*_, _^_, _≤_}
 use native.Mathlib.Omega.{arith}
-use lib.ListN.{length, take, drop, length-append}
+use lib.ListN.{length, length-append}
 use Rattle.buffer.specs.Same.{Bytes}
-use Rattle.config.specs.Limits.{maxArena, maxBytes}
+use Rattle.config.specs.Limits.{maxBytes}
 use Rattle.config.specs.declared.Settings.{Settings}
 use Rattle.format.specs.Runs.{encAll}
 use Rattle.decimal.specs.Digits.{digits}
@@ -16,7 +16,7 @@ use Rattle.cursor.specs.At.{rangeBytes, RangeIn, ArgsHere}
 use Rattle.cursor.specs.declared.Args.{Args}
 use Rattle.cursor.specs.declared.Range.{Range}
 use Rattle.command_key.specs.declared.CommandKey.the-variants.{Named}
-use Rattle.command_key.specs.Key.{keyBytes}
+use Rattle.command_key.specs.Key.{keyBytes, KeyIn}
 use Rattle.cmd.specs.Pack.{blob, blobBytes}
 use Rattle.cmd.specs.Laws.{blob-length}
 use Rattle.book.specs.Book.{Row}
@@ -31,8 +31,7 @@ use Rattle.ask.specs.Keys.{part-key}
 use Rattle.ask.specs.declared.KeyAt.{KeyAt}
 use Rattle.ask.specs.declared.Several.{Several}
 use Rattle.several_keys.specs.Pieces.{wantAt, placeAt}
-use Rattle.several_keys.specs.Each.{part-in, hit-length}
-use Rattle.several_keys.specs.Steps.{placesFrom, places-none, places-more, enough-more, keys-few}
+use Rattle.several_keys.specs.Steps.{placesFrom, places-none, places-more, enough-more}
 use Rattle.several_keys.specs.declared.Measured.{Measured}
 
 -- the nodes of places, as long as they are under any client expiry
@@ -69,16 +68,19 @@ pub record Bounded (n : ℕ) (m : Measured) : Type 0 where
 
 -- ---- one place
 
--- that is filled by n bytes of the arena
-pub more-filled : (m : Measured) (q : Place) (a : Bytes) (from to : ℕ) → from ≤ to → to ≤ length a → q ≡ filled (take (to - from) (drop from a))
-    → More m q (record { missing = m .missing; nodes = m .nodes + (20 + (to - from)); keys = m .keys })
+-- that is filled by n bytes
+pub more-filled : (m : Measured) (q : Place) (b : Bytes) (n : ℕ) → q ≡ filled b → n ≡ length b
+    → More m q (record { missing = m .missing; nodes = m .nodes + (20 + n); keys = m .keys })
 unfolding missing placeNodes keysOf blobBytes encNode
-more-filled m q a from to h k e =
-    let b : Bytes = take (to - from) (drop from a) in
-    let l = hit-length a from to h k in
+more-filled m q b n e l =
     let i = length-node 1 b [] 0 in
     let j = length-append (nodeBytes 1 b [] 0) [] in
     rw e (record { number = omega arith; nodes = omega arith; keys = omega arith })
+
+-- its key and its command key lie inside
+pub part-in : (s : Bytes) (v : Several) (key : Range) → SeveralIn s v → RangeIn s key → length s ≤ maxBytes → KeyIn s (Named (v .json) key (v .path))
+unfolding KeyIn
+part-in s v key w i h = (i, w .inside, h)
 
 -- that waits for a key, whose text is t
 module _ (s : Bytes) (v : Several) (key : Range) (w : SeveralIn s v) (i : RangeIn s key) (t : Bytes) (p : t ≡ rangeBytes s key) (n l : ℕ)

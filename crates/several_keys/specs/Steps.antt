@@ -1,17 +1,15 @@
--- One key more: what a turn of the loops means for the places that are left. Assumes nothing.
+-- One key more: what a turn of a loop over several keys means for the places that are left; and how many keys there can be. Assumes nothing.
 use mathlib.Core.Path.{_≡_, refl, sym, ap, _∙_}
-use mathlib.Core.List.{List, [], _∷_, _++_}
+use mathlib.Core.List.{List, [], _∷_}
 use Prim.Native.Nat.{ℕ, zero, suc, _+_, _*_, _≤_}
 use native.Mathlib.Omega.{arith}
 use native.Mathlib.Numerals.{add-one}
-use lib.ListN.{length, take, length-append}
+use lib.ListN.{length, take}
 use Rattle.buffer.specs.Same.{Bytes}
 use Rattle.config.specs.declared.Settings.{Settings}
 use Rattle.cursor.specs.At.{nextAt, argsAt, argsOf, ArgsIn}
 use Rattle.cursor.specs.Steps.{in-start, in-more, args-none, args-more}
 use Rattle.cursor.specs.declared.Args.{Args}
-use Rattle.buffer.specs.Copied.{Copied, copied-next, copied-room, copied-done, copied-ends}
-use Rattle.cmd.specs.Laws.{Wrote}
 use Rattle.book.specs.Book.{Row}
 use Rattle.planning.specs.Outcome.{Place, partKeys}
 use Rattle.planning.specs.Small.{simples-count}
@@ -20,8 +18,7 @@ use Rattle.ask.specs.declared.KeyAt.{KeyAt}
 use Rattle.ask.specs.declared.Several.{Several}
 use Rattle.sharded_lru.specs.Lent.{setupNow}
 use Rattle.cached_cmd.specs.Result.{placesOn}
-use Rattle.several_keys.specs.Pieces.{pieceOf, pieces, placeAt}
-use Rattle.several_keys.specs.declared.Piece.{Piece}
+use Rattle.several_keys.specs.Pieces.{placeAt}
 
 module _ (g : Settings) (rows : ℕ → Row) (t e : ℕ) (s : Bytes) (v : Several) where
   -- the places of the first n simple arguments before a cursor
@@ -37,38 +34,6 @@ module _ (g : Settings) (rows : ℕ → Row) (t e : ℕ) (s : Bytes) (v : Severa
   pub places-more : (k : Args) (r : KeyAt) (n m : ℕ) → n ≡ m + 1 → KeyStep s k r → placesFrom k n ≡ placeAt g rows t e s v (r .key) ∷ placesFrom (r .rest) m
   unfolding placesOn partKeys
   places-more k r n m q w = let z : n ≡ suc m = q ∙ add-one m in rw (z, w .is)
-
-  module _ (what : Piece) where
-    -- what is written of them
-    abbrev pub piecesFrom : Args → ℕ → Bytes
-    piecesFrom k n = pieces what (placesFrom k n)
-
-    pub pieces-none : (k : Args) (n : ℕ) → n ≡ 0 → piecesFrom k n ≡ []
-    pieces-none k n q = ap (pieces what) (places-none k n q)
-
-    pieces-more : (k : Args) (r : KeyAt) (n m : ℕ) → n ≡ m + 1 → KeyStep s k r
-        → piecesFrom k n ≡ pieceOf what (placeAt g rows t e s v (r .key)) ++ piecesFrom (r .rest) m
-    pieces-more k r n m q w = ap (pieces what) (places-more k r n m q w)
-
-    -- how long they are
-    pub pieces-length : (k : Args) (r : KeyAt) (n m : ℕ) → n ≡ m + 1 → KeyStep s k r
-        → length (piecesFrom k n) ≡ length (pieceOf what (placeAt g rows t e s v (r .key))) + length (piecesFrom (r .rest) m)
-    pieces-length k r n m q w = ap length (pieces-more k r n m q w) ∙ length-append (pieceOf what (placeAt g rows t e s v (r .key))) (piecesFrom (r .rest) m)
-
-    module _ (d₀ all d : Bytes) (to next : ℕ) (k : Args) (r : KeyAt) (n m : ℕ) (q : n ≡ m + 1) (w : KeyStep s k r) (c : Copied d₀ to all d next (piecesFrom k n)) where
-      -- room for the first
-      pub pieces-room : next + length (pieceOf what (placeAt g rows t e s v (r .key))) ≤ length d
-      pieces-room = copied-room d₀ all d (pieceOf what (placeAt g rows t e s v (r .key))) (piecesFrom k n) (piecesFrom (r .rest) m) to next (pieces-more k r n m q w) c
-
-      -- it is written
-      pub pieces-step : (d₁ : Bytes) (f : ℕ) → Wrote d next (pieceOf what (placeAt g rows t e s v (r .key))) d₁ f → Copied d₀ to all d₁ f (piecesFrom (r .rest) m)
-      pieces-step d₁ f h = copied-next d₀ all d d₁ (pieceOf what (placeAt g rows t e s v (r .key))) (piecesFrom k n) (piecesFrom (r .rest) m) to next f (pieces-more k r n m q w) (h .ends) (h .is) c
-
-    -- all are written
-    pub pieces-done : (d₀ all d : Bytes) (to next : ℕ) (k : Args) (n : ℕ) → n ≡ 0 → Copied d₀ to all d next (piecesFrom k n) → Wrote d₀ to all d next
-    pieces-done d₀ all d to next k n q c =
-        let z = pieces-none k n q in
-        record { ends = copied-ends d₀ all d (piecesFrom k n) to next z c; is = copied-done d₀ all d (piecesFrom k n) to next z c }
 
 -- as many simple arguments are left as keys
 pub enough-more : (s : Bytes) (k : Args) (r : KeyAt) (n m : ℕ) → n ≡ m + 1 → KeyStep s k r → n ≤ length (simplesOf s k) → m ≤ length (simplesOf s (r .rest))

@@ -1,116 +1,25 @@
-// A several-key command's places, each looked up by peeking: their nodes in the plan, the missing keys as they are sent, and a `PTTL` for each; after the
-// loops of `pack_command` (caching/cmd.rs). One loop writes and one measures; what is written of a place is a parameter (specs/Pieces.antt).
+// Several keys of a command: what they take, each peeked once; and those that wait, written as they are sent, after the loops of `pack_command`
+// (caching/cmd.rs). They are read from the nodes of their places in the plan, so that no key is searched for again; or, where every key waits, from the record
+// (specs/Source.antt). What is written of a key is a parameter (specs/Pieces.antt).
 use ask::Several;
 use command_key::CommandKey;
 use config::Settings;
+use cursor::Args;
 use cursor::Range;
 use shard_lookup::Looked;
-ghost use mathlib.Core.Path.{_≡_};
-ghost use Prim.Native.Nat.{ℕ, _+_, _*_, _^_, _≤_};
+ghost use mathlib.Core.Bool.{cond};
+ghost use mathlib.Core.List.{[]};
+ghost use Prim.Native.Nat.{ℕ, suc, _+_, _≤_};
 ghost use lib.ListN.{length};
-ghost use Rattle.buffer.specs.Same.{Bytes};
-ghost use Rattle.config.specs.Limits.{maxArena, maxBytes};
-ghost use Rattle.cursor.specs.At.{RangeIn};
+ghost use Rattle.config.specs.Limits.{maxBytes};
+ghost use Rattle.cursor.specs.At.{rangeBytes, RangeIn};
 ghost use Rattle.cmd.specs.Laws.{Wrote};
 ghost use Rattle.book.specs.Book.{Row};
-ghost use Rattle.planning.specs.Outcome.{filled, waiting};
 ghost use Rattle.ask.specs.Asked.{SeveralIn};
 ghost use Rattle.sharded_lru.specs.Lent.{Lent, Arena};
-ghost use Rattle.several_keys.specs.Pieces.{pieceOf, pieces, wantAt, placeAt, placesNow, Fits, Puts};
+ghost use Rattle.several_keys.specs.Pieces.{pieceOf, pieces, placeAt, placesNow};
 ghost use Rattle.several_keys.specs.Measure.{Measures, More, Grows, Bounded};
-
-// What is written of a place: its node, where it waits with this client expiry; its key as a blob, if it waits; `PTTL` and its key, if it waits.
-pub enum Piece {
-    Node(u64),
-    Key,
-    Pttl,
-}
-
-// A place that is filled by this value.
-fn write_filled(dst: &mut [u8], to: usize, what: Piece, value: &[u8]) -> usize
-    requires { ⌜ (to + length (pieceOf what (filled (now value))) ≤ length (now dst)) × (length (now value) ≤ maxArena) ⌝ }
-    ensures { λ r. ⌜ Wrote (now (dst .entry)) to (pieceOf what (filled (now (value .entry)))) (now (dst .exit)) r ⌝ }
-{
-    match what {
-        Piece::Node(_) => plan_write::write_served(dst, to, value),
-        Piece::Key => to,
-        Piece::Pttl => to,
-    }
-}
-
-// A place that waits for this key.
-fn write_waiting(
-    dst: &mut [u8],
-    to: usize,
-    what: Piece,
-    bytes: &[u8],
-    v: Several,
-    key: Range,
-) -> usize
-    requires { ⌜ SeveralIn (now bytes) v × RangeIn (now bytes) key × (length (now bytes) ≤ maxBytes) × (to + length (pieceOf what (waiting (wantAt (now bytes) v key))) ≤ length (now dst)) ⌝ }
-    ensures { λ r. ⌜ Wrote (now (dst .entry)) to (pieceOf what (waiting (wantAt (now (bytes .entry)) v key))) (now (dst .exit)) r ⌝ }
-{
-    let path = v.path;
-    let command = CommandKey::Named(v.json, key, path);
-    let text = cursor::bytes_in(bytes, key);
-    match what {
-        Piece::Node(expiry) => {
-            plan_write::write_missing(dst, to, 5, text, bytes, command, expiry)
-        }
-        Piece::Key => cmd::write_blob(dst, to, text),
-        Piece::Pttl => cmd::write_pttl(dst, to, text),
-    }
-}
-
-// One place.
-fn write_place(
-    dst: &mut [u8],
-    to: usize,
-    what: Piece,
-    bytes: &[u8],
-    v: Several,
-    key: Range,
-    arena: &[u8],
-    g: Settings,
-    clock: u64,
-    epoch: u64,
-) -> usize
-    requires { ⌜ SeveralIn (now bytes) v × RangeIn (now bytes) key × (length (now bytes) ≤ maxBytes) × Arena g (now arena) × Fits g (now arena) (λ rows. pieceOf what (placeAt g rows clock epoch (now bytes) v key)) to (length (now dst)) ⌝ }
-    ensures { λ r. ⌜ Puts g (now (arena .entry)) (λ rows. pieceOf what (placeAt g rows clock epoch (now (bytes .entry)) v key)) (now (dst .entry)) to (now (dst .exit)) r ⌝ }
-{
-    match cached_cmd::peek_key(bytes, v, key, arena, g, clock, epoch) {
-        Looked::Hit { from, to: end } => write_filled(dst, to, what, &arena[from..end]),
-        Looked::Miss(_) => write_waiting(dst, to, what, bytes, v, key),
-    }
-}
-
-// Every place, in the order of the keys.
-pub fn write_places(
-    dst: &mut [u8],
-    to: usize,
-    what: Piece,
-    bytes: &[u8],
-    v: Several,
-    arena: &[u8],
-    g: Settings,
-    clock: u64,
-    epoch: u64,
-) -> usize
-    requires { ⌜ SeveralIn (now bytes) v × (length (now bytes) ≤ maxBytes) × Arena g (now arena) × Fits g (now arena) (λ rows. pieces what (placesNow g rows clock epoch (now bytes) v)) to (length (now dst)) ⌝ }
-    ensures { λ r. ⌜ Puts g (now (arena .entry)) (λ rows. pieces what (placesNow g rows clock epoch (now (bytes .entry)) v)) (now (dst .entry)) to (now (dst .exit)) r ⌝ }
-{
-    let mut k = v.args;
-    let mut left = v.keys;
-    let mut next = to;
-    while left > 0 {
-        let here = ask::next_key(bytes, k);
-        let key = here.key;
-        next = write_place(dst, next, what, bytes, v, key, arena, g, clock, epoch);
-        k = here.rest;
-        left -= 1;
-    }
-    next
-}
+ghost use Rattle.several_keys.specs.Source.{keysAt, KeysIn, Step};
 
 // What several keys take: how many of them wait, the bytes of their places' nodes, the bytes of the keys that wait as blobs.
 pub struct Measured {
@@ -179,4 +88,100 @@ pub fn measure(
         left -= 1;
     }
     m
+}
+
+// What is written of a key that waits: the key as a blob; or `PTTL` and the key.
+pub enum Piece {
+    Key,
+    Pttl,
+}
+
+// Where places are read from: the plan, from this place on; or the record, from this cursor on, where every key waits.
+pub enum Source {
+    Nodes(usize),
+    Keys(Args),
+}
+
+// A place: whether it is served, and its key if it is not; and where the others are read from.
+pub struct PlaceAt {
+    pub served: bool,
+    pub key: Range,
+    pub rest: Source,
+}
+
+// The next place.
+fn place_at(src: &[u8], from: Source) -> PlaceAt
+    requires { ⌜ KeysIn (now src) from 1 ⌝ }
+    ensures { λ r. ⌜ ((n : ℕ) → KeysIn (now (src .entry)) from (suc n) → Step (now (src .entry)) from n r) ⌝ }
+{
+    match from {
+        Source::Nodes(at) => {
+            let node = plan::node_at(src, at);
+            PlaceAt {
+                served: node.kind == 1,
+                key: Range {
+                    start: node.first,
+                    end: node.second,
+                },
+                rest: Source::Nodes(node.end),
+            }
+        }
+        Source::Keys(k) => {
+            let next = ask::next_key(src, k);
+            let key = next.key;
+            let rest = next.rest;
+            PlaceAt {
+                served: false,
+                key: key,
+                rest: Source::Keys(rest),
+            }
+        }
+    }
+}
+
+// One place: nothing, if it is served.
+fn write_place(
+    dst: &mut [u8],
+    to: usize,
+    what: Piece,
+    src: &[u8],
+    served: bool,
+    key: Range,
+) -> usize
+    requires { ⌜ RangeIn (now src) key × (to + length (cond served [] (pieceOf what (rangeBytes (now src) key))) ≤ length (now dst)) ⌝ }
+    ensures { λ r. ⌜ Wrote (now (dst .entry)) to (cond served [] (pieceOf what (rangeBytes (now (src .entry)) key))) (now (dst .exit)) r ⌝ }
+{
+    if served {
+        return to;
+    }
+    let text = cursor::bytes_in(src, key);
+    match what {
+        Piece::Key => cmd::write_blob(dst, to, text),
+        Piece::Pttl => cmd::write_pttl(dst, to, text),
+    }
+}
+
+// The keys that wait among n places, in their order.
+pub fn write_waiting(
+    dst: &mut [u8],
+    to: usize,
+    what: Piece,
+    src: &[u8],
+    from: Source,
+    n: usize,
+) -> usize
+    requires { ⌜ KeysIn (now src) from n × (to + length (pieces what (keysAt (now src) from n)) ≤ length (now dst)) ⌝ }
+    ensures { λ r. ⌜ Wrote (now (dst .entry)) to (pieces what (keysAt (now (src .entry)) from n)) (now (dst .exit)) r ⌝ }
+{
+    let mut at = from;
+    let mut left = n;
+    let mut next = to;
+    while left > 0 {
+        let here = place_at(src, at);
+        let key = here.key;
+        next = write_place(dst, next, what, src, here.served, key);
+        at = here.rest;
+        left -= 1;
+    }
+    next
 }

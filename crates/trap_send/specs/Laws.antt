@@ -26,7 +26,7 @@ use Rattle.sharded_lru.specs.Admit.{admitted, admits}
 use Rattle.sharded_lru.specs.declared.Admitted.the-variants.{Admits, Refused}
 use Rattle.plan_sizes.specs.Sizes.{allSent}
 use Rattle.pipeline.specs.Wrapped.{startBytes, endBytes}
-use Rattle.several_keys.specs.Pieces.{Fits}
+use Rattle.trap_send.specs.Walk.{Fits}
 use Rattle.dry_pass.specs.Room.{spent, whole}
 use Rattle.dry_pass.specs.Dry.{Planable}
 use Rattle.dry_pass.specs.declared.Room.{Room}
@@ -162,6 +162,11 @@ module _ (s f : Bytes) (a : Bytes) (g : Settings) (rows : ℕ → Row) (n : Coun
 pub empty-set-up : (a : Bytes) → length a ≡ 64 → freshArena (checked 4 0 1800000 (length a)) a ≡ emptyCache .arena
 unfolding checked refused settingsOf
 empty-set-up a l = ap (λ (n : ℕ). freshArena (checked 4 0 1800000 n) a) l ∙ ap (λ (n : ℕ). replicate {A = ℕ} n 0) l
+
+-- which are zeros
+pub fresh-zeros : (a : Bytes) → a ≡ freshArena (checked 4 0 1800000 64) (replicate {A = ℕ} 64 0) → a ≡ replicate {A = ℕ} (length a) 0
+unfolding checked refused settingsOf
+fresh-zeros a q = q ∙ ap (λ (n : ℕ). replicate {A = ℕ} n 0) (sym (ap length q))
 
 module _ (s f : Bytes) where
   -- a record over 65,536 bytes

@@ -18,12 +18,21 @@ use Rattle.book.specs.Book.{Row}
 use Rattle.plan_write.specs.Wrote.{wrote-none, wrote-both, wrote-long, room-first, room-second}
 use Rattle.sharded_lru.specs.Lent.{setupNow, Lent, Arena}
 use Rattle.plan_sizes.specs.Sizes.{sentFor, allSent}
-use Rattle.several_keys.specs.Pieces.{Fits, Puts}
 use Rattle.pipeline.specs.Wrapped.{startBytes, endBytes}
 use Rattle.cache_manager.specs.Planned.{sendBytes}
 use Rattle.dry_pass.specs.Room.{spent, spent-none, spent-more}
 use Rattle.dry_pass.specs.Dry.{Planable, planable-next}
 use Rattle.dry_pass.specs.declared.Room.{Room}
+
+-- ---- what is written by the rows that the arena holds
+
+-- it fits into n bytes, from `to` on
+abbrev pub Fits : Settings → Bytes → ((ℕ → Row) → Bytes) → ℕ → ℕ → Type 0
+Fits g a all to n = (rows : ℕ → Row) → Lent g a rows → to + length (all rows) ≤ n
+
+-- it is written to d at `to`, up to e
+abbrev pub Puts : Settings → Bytes → ((ℕ → Row) → Bytes) → Bytes → ℕ → Bytes → ℕ → Type 0
+Puts g a all d to d₁ e = (rows : ℕ → Row) → Lent g a rows → Wrote d to (all rows) d₁ e
 
 module _ (g : Settings) (a s : Bytes) (t e : ℕ) where
   -- what is sent for the m commands at `at`, by the rows

@@ -1,11 +1,17 @@
 // What the program trap_plan sends: the call record is planned, at clock 0 in mode All, on a cache of four keys that holds nothing (docs/BEHAVIOUR.md, T1).
-// A plan of such a record can be far longer than what is sent for it, so none is written: planning's own pieces are, each command peeked at on the empty
-// cache. specs/Send.antt says what is written.
+// A plan of such a record can be far longer than what is sent for it, so none is written: planning's own pieces are: on the empty cache
+// every key waits. specs/Send.antt says what is written.
+use ask::Asked;
+use cached_cmd::CacheableCommand;
+use cached_cmd::CachingResult;
+use cached_cmd::PrepCacheItem;
+use cached_cmd::Served;
 use call_record::Checked;
 use config::Settings;
 use cursor::Commands;
 use cursor::Head;
 use dry_pass::Room;
+use several_keys::Source;
 use sharded_lru::Admitted;
 ghost use mathlib.Core.Path.{_≡_};
 ghost use Prim.Native.Nat.{ℕ, _≤_};
@@ -17,7 +23,8 @@ ghost use Rattle.cursor.specs.At.{commandOf, commandsOf, recordAt};
 ghost use Rattle.book.specs.Book.{Row, Counts};
 ghost use Rattle.sharded_lru.specs.Lent.{setupNow, Lent, Arena};
 ghost use Rattle.plan_sizes.specs.Sizes.{sentFor, allSent};
-ghost use Rattle.several_keys.specs.Pieces.{Fits, Puts};
+ghost use Rattle.trap_send.specs.Walk.{Fits, Puts};
+ghost use Rattle.trap_send.specs.Blank.{Blank, Waits};
 ghost use Rattle.dry_pass.specs.Room.{spent};
 ghost use Rattle.dry_pass.specs.Dry.{Planable, One};
 ghost use Rattle.cache_manager.specs.Pipeline.{recorded, admittedTo};
@@ -50,7 +57,56 @@ fn command_len(bytes: &[u8], head: Head, arena: &[u8], g: Settings, clock: u64, 
     size.send
 }
 
-// What is sent for a command.
+// A command's outcome where no key is served, and where its keys are read from.
+pub struct Waiting {
+    pub result: CachingResult,
+    pub keys: Source,
+}
+
+// The outcome of a command on a cache that holds nothing: every key that it asks for waits.
+fn all_wait(bytes: &[u8], head: Head, g: Settings, clock: u64) -> Waiting
+    requires { ⌜ One g clock (now bytes) head × (length (now bytes) ≤ maxBytes) ⌝ }
+    ensures { λ r. ⌜ ((e : ℕ) → Waits g clock e (now (bytes .entry)) head r) ⌝ }
+{
+    let args = head.args;
+    match ask::ask(bytes, head, g, clock) {
+        Asked::Nothing => Waiting {
+            result: CachingResult::Ignored,
+            keys: Source::Keys(args),
+        },
+        Asked::Uncacheable => Waiting {
+            result: CachingResult::Item(PrepCacheItem::NotCacheable),
+            keys: Source::Keys(args),
+        },
+        Asked::OneKey(key, expiry) => Waiting {
+            result: CachingResult::Item(PrepCacheItem::NotCached(CacheableCommand::Single(
+                key,
+                expiry,
+            ))),
+            keys: Source::Keys(args),
+        },
+        Asked::SeveralKeys(v, expiry) => {
+            let from = v.args;
+            let n = v.keys;
+            if n == 0 {
+                return Waiting {
+                    result: CachingResult::Item(PrepCacheItem::Cached(Served::Values(v))),
+                    keys: Source::Keys(from),
+                };
+            }
+            Waiting {
+                result: CachingResult::Item(PrepCacheItem::NotCached(CacheableCommand::Multiple(
+                    v,
+                    n,
+                    expiry,
+                ))),
+                keys: Source::Keys(from),
+            }
+        }
+    }
+}
+
+// What is sent for a command, on a cache that holds nothing.
 fn write_command(
     out: &mut [u8],
     to: usize,
@@ -61,11 +117,14 @@ fn write_command(
     clock: u64,
     epoch: u64,
 ) -> usize
-    requires { ⌜ One g clock (now bytes) head × (length (now bytes) ≤ maxBytes) × Arena g (now arena) × Fits g (now arena) (λ rows. sentFor (setupNow g) rows clock epoch g (commandOf (now bytes) head)) to (length (now out)) ⌝ }
+    requires { ⌜ One g clock (now bytes) head × (length (now bytes) ≤ maxBytes) × Arena g (now arena) × Fits g (now arena) (λ rows. sentFor (setupNow g) rows clock epoch g (commandOf (now bytes) head)) to (length (now out)) × Blank g (now arena) ⌝ }
     ensures { λ r. ⌜ Puts g (now (arena .entry)) (λ rows. sentFor (setupNow g) rows clock epoch g (commandOf (now (bytes .entry)) head)) (now (out .entry)) to (now (out .exit)) r ⌝ }
 {
-    let result = cached_cmd::get_cached_cmd(bytes, head, arena, g, clock, epoch);
-    pack_command::write_sent(out, to, bytes, head, result, arena, g, clock, epoch)
+    let mode = g.mode;
+    let w = all_wait(bytes, head, g, clock);
+    let result = w.result;
+    let keys = w.keys;
+    pack_command::write_sent(out, to, bytes, head, result, mode, bytes, keys)
 }
 
 // The room that is left in a buffer once what is sent for the commands is taken.
@@ -104,7 +163,7 @@ fn write_commands(
     clock: u64,
     epoch: u64,
 ) -> usize
-    requires { ⌜ Planable g clock (now bytes) (k .left) (k .at) × (length (now bytes) ≤ maxBytes) × Arena g (now arena) × Fits g (now arena) (λ rows. allSent (setupNow g) rows clock epoch g (commandsOf (now bytes) k)) to (length (now out)) ⌝ }
+    requires { ⌜ Planable g clock (now bytes) (k .left) (k .at) × (length (now bytes) ≤ maxBytes) × Arena g (now arena) × Fits g (now arena) (λ rows. allSent (setupNow g) rows clock epoch g (commandsOf (now bytes) k)) to (length (now out)) × Blank g (now arena) ⌝ }
     ensures { λ r. ⌜ Puts g (now (arena .entry)) (λ rows. allSent (setupNow g) rows clock epoch g (commandsOf (now (bytes .entry)) k)) (now (out .entry)) to (now (out .exit)) r ⌝ }
 {
     let mut at = k.at;
@@ -130,7 +189,7 @@ fn write_pipeline(
     clock: u64,
     epoch: u64,
 ) -> usize
-    requires { ⌜ Planable g clock (now bytes) (k .left) (k .at) × (length (now bytes) ≤ maxBytes) × Arena g (now arena) × Fits g (now arena) (λ rows. sendBytes (setupNow g) rows clock epoch g transaction (commandsOf (now bytes) k)) 0 (length (now out)) ⌝ }
+    requires { ⌜ Planable g clock (now bytes) (k .left) (k .at) × (length (now bytes) ≤ maxBytes) × Arena g (now arena) × Fits g (now arena) (λ rows. sendBytes (setupNow g) rows clock epoch g transaction (commandsOf (now bytes) k)) 0 (length (now out)) × Blank g (now arena) ⌝ }
     ensures { λ r. ⌜ Puts g (now (arena .entry)) (λ rows. sendBytes (setupNow g) rows clock epoch g transaction (commandsOf (now (bytes .entry)) k)) (now (out .entry)) 0 (now (out .exit)) r ⌝ }
 {
     let from = pipeline::write_start(out, 0, transaction);
@@ -140,7 +199,7 @@ fn write_pipeline(
 
 // A record that is one.
 fn send_record(bytes: &[u8], out: &mut [u8], arena: &[u8], g: Settings) -> Sent
-    requires { ⌜ Arena g (now arena) × (length (now bytes) ≤ maxBytes) × (checkDef (now bytes) ≡ Fine) ⌝ }
+    requires { ⌜ Arena g (now arena) × (length (now bytes) ≤ maxBytes) × (checkDef (now bytes) ≡ Fine) × Blank g (now arena) ⌝ }
     ensures { λ r. ⌜ ((rows : ℕ → Row) (n : Counts) (next : ℕ) → Lent g (now (arena .entry)) rows → Settles (λ d. outputOf (recorded 0 0 (now (bytes .entry)) d (now (out .entry)) (held (now (arena .entry)) n next) g rows (recordAt (now (bytes .entry))))) (output r (now (out .exit)))) × Within r (length (now (out .entry))) ⌝ }
 {
     let k = cursor::commands_of(bytes);
@@ -162,7 +221,7 @@ fn send_record(bytes: &[u8], out: &mut [u8], arena: &[u8], g: Settings) -> Sent
 
 // A record of which it is known that it is not too long, on a cache.
 fn send_admitted(bytes: &[u8], out: &mut [u8], arena: &[u8], g: Settings) -> Sent
-    requires { ⌜ Arena g (now arena) × (length (now bytes) ≤ maxRecord) ⌝ }
+    requires { ⌜ Arena g (now arena) × (length (now bytes) ≤ maxRecord) × Blank g (now arena) ⌝ }
     ensures { λ r. ⌜ ((rows : ℕ → Row) (n : Counts) (next : ℕ) → Lent g (now (arena .entry)) rows → Settles (λ d. outputOf (admittedTo 0 0 (now (bytes .entry)) d (now (out .entry)) (held (now (arena .entry)) n next) g rows)) (output r (now (out .exit)))) × Within r (length (now (out .entry))) ⌝ }
 {
     match call_record::check(bytes) {

@@ -1,5 +1,7 @@
 -- `look_up::look_up_key` meets its contract. Assumes nothing.
 use mathlib.Core.Path.{sym, _∙_}
+use Rattle.sharded_lru.specs.Lent.{setupNow}
+use Rattle.cached_cmd.specs.Places.{told-place}
 use Rattle.look_up.specs.Looks as laws
 use borrow.Author.Needs.{needs}
 use Rattle.look_up.proofs.look_up_key.Statement.{statement}
@@ -18,8 +20,13 @@ same-length : tie.Need-same-length
 same-length c = search needs
 
 returns : tie.Need-returns
-returns c = λ w p q. laws.looks-one _ _ _ w _ _ _ _ _ _ (c .before .before .before .get .result) (p ∙ sym (c .before .before .before .before .before .bytes-in .ensures)) q (c .counted .ensures)
-    (λ rows l. let h = c .before .before .before .get .ensures rows l in (h .0, h .1))
+returns c = λ w p q.
+    let a = c .before .before .before .before .before .before .before .before .args in
+    let k = p ∙ sym (c .before .before .before .before .before .bytes-in .ensures) in
+    record {
+      looks = laws.looks-one _ _ _ w _ _ _ _ _ _ (c .before .before .before .get .result) k q (c .counted .ensures) (λ rows l. let h = c .before .before .before .get .ensures rows l in (h .0, h .1));
+      told = λ rows l. told-place (setupNow (a .g)) rows (a .clock) (a .epoch) _ w _ _ (c .before .before .before .get .result) k q (c .before .before .before .get .ensures rows l .1);
+    }
 
 pub look-up-key-spec : {M : Type 1} → statement M
 look-up-key-spec =

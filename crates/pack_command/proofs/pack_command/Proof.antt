@@ -1,6 +1,7 @@
 -- `pack_command` meets its contract: one writer after the other, case by case. Assumes nothing.
-use native.Mathlib.Omega.{arith}
+use mathlib.Core.Path.{refl, ap, subst}
 use Rattle.plan_write.specs.Wrote.{wrote-as, wrote-both, room-is, room-first, room-second}
+use Rattle.cached_cmd.specs.declared.CacheableCommand.{CacheableCommand}
 use Rattle.pack_command.specs.Sends as sends
 use borrow.Author.Needs.{needs}
 use Rattle.pack_command.proofs.pack_command.Statement.{statement}
@@ -9,8 +10,9 @@ use Rattle.pack_command.proofs.pack_command.Tie as tie
 write-opt-in-requires : tie.Need-write-opt-in-requires
 write-opt-in-requires c κs =
     let a = c .before .before .before .before .args in
-    let q = c .before .before .before .before .pre .2 in
-    room-first _ (sends.cachingBytes (a .g .mode)) (sends.packsBytes (a .g) (q .rows) (a .clock) (a .epoch) (a .bytes .now) (a .arena .now) (a .head) (a .cc)) _ _ (sends.caching-first (a .g) (q .rows) (a .clock) (a .epoch) (a .bytes .now) (a .arena .now) (a .head) (a .cc)) (c .before .before .before .before .pre .4 (q .rows) (q .lent))
+    let p = c .before .before .before .before .pre in
+    let C = sends.cachingBytes (a .mode) in
+    room-first _ C (sends.missingWith (a .bytes .now) (a .head) (a .src .now) (a .from) (a .cc)) _ _ refl (p .2)
 
 enum-known-cc : tie.Need-enum-known-cc
 enum-known-cc c = search needs
@@ -18,8 +20,12 @@ enum-known-cc c = search needs
 write-single-requires : tie.Need-write-single-requires
 write-single-requires c κs =
     let a = c .before .before .before .before .before .before .before .before .before .before .before .args in
-    let q = c .before .before .before .before .before .before .before .before .before .before .before .pre .2 in
-    (c .before .before .before .before .before .before .before .before .before .before .before .pre .0, sends.single-inside (a .g) (q .rows) (a .clock) (a .epoch) (a .bytes .now) (a .arena .now) (a .head) (a .cc) _ _ (c .before .before .cc .given .1) (c .before .before .before .before .before .before .before .before .before .before .before .pre .3 (q .rows) (q .lent)), room-is _ _ _ _ (sends.packs-single (a .g) (q .rows) (a .clock) (a .epoch) (a .bytes .now) (a .arena .now) (a .head) (a .cc) _ _ (c .before .before .cc .given .1)) (room-second _ _ _ (sends.cachingBytes (a .g .mode)) (sends.packsBytes (a .g) (q .rows) (a .clock) (a .epoch) (a .bytes .now) (a .arena .now) (a .head) (a .cc)) _ _ (sends.caching-first (a .g) (q .rows) (a .clock) (a .epoch) (a .bytes .now) (a .arena .now) (a .head) (a .cc)) (c .before .before .before .before .before .before .before .before .before .before .before .pre .4 (q .rows) (q .lent)) (c .before .before .before .before .before .before .write-opt-in .ensures)))
+    let p = c .before .before .before .before .before .before .before .before .before .before .before .pre in
+    let C = sends.cachingBytes (a .mode) in
+    let q = c .before .before .cc .given .1 in
+    let w = subst (λ (z : CacheableCommand). sends.CommandSends (a .bytes .now) (a .src .now) (a .from) z) q (p .1) in
+    let e = ap (sends.missingWith (a .bytes .now) (a .head) (a .src .now) (a .from)) q in
+    (p .0, w, room-is _ _ _ _ e (room-second _ _ _ C (sends.missingWith (a .bytes .now) (a .head) (a .src .now) (a .from) (a .cc)) _ _ refl (p .2) (c .before .before .before .before .before .before .write-opt-in .ensures)))
 
 enum-known-cc-2 : tie.Need-enum-known-cc-2
 enum-known-cc-2 c = search needs
@@ -27,21 +33,12 @@ enum-known-cc-2 c = search needs
 write-several-requires : tie.Need-write-several-requires
 write-several-requires c κs =
     let a = c .before .before .before .before .before .before .before .before .before .before .before .args in
-    let q = c .before .before .before .before .before .before .before .before .before .before .before .pre .2 in
-    let w = sends.multiple-inside (a .g) (q .rows) (a .clock) (a .epoch) (a .bytes .now) (a .arena .now) (a .head) (a .cc) _ _ _ (c .before .before .cc2 .given .1) (c .before .before .before .before .before .before .before .before .before .before .before .pre .3 (q .rows) (q .lent)) in
-    let f = sends.few-missing (a .g) (q .rows) (a .clock) (a .epoch) (a .bytes .now) (c .before .before .cc2 .given .0 .0) _ (w .0) (w .1) in
-    let m = c .before .before .before .before .before .before .before .before .before .before .before .pre .1 in
-    let x = w .1 in
-    let y = w .2 in (
-      w .0,
-      m,
-      q,
-      sends.some-keys (a .g) (q .rows) (a .clock) (a .epoch) (a .bytes .now) (c .before .before .cc2 .given .0 .0) (omega arith),
-      omega arith,
-      λ rows l.
-          let v = sends.multiple-inside (a .g) rows (a .clock) (a .epoch) (a .bytes .now) (a .arena .now) (a .head) (a .cc) _ _ _ (c .before .before .cc2 .given .1) (c .before .before .before .before .before .before .before .before .before .before .before .pre .3 rows l) in
-          room-is _ _ _ _ (sends.packs-multiple (a .g) rows (a .clock) (a .epoch) (a .bytes .now) (a .arena .now) (a .head) (a .cc) _ _ _ (c .before .before .cc2 .given .1) (v .0) (v .1) (v .2)) (room-second _ _ _ (sends.cachingBytes (a .g .mode)) (sends.packsBytes (a .g) rows (a .clock) (a .epoch) (a .bytes .now) (a .arena .now) (a .head) (a .cc)) _ _ (sends.caching-first (a .g) rows (a .clock) (a .epoch) (a .bytes .now) (a .arena .now) (a .head) (a .cc)) (c .before .before .before .before .before .before .before .before .before .before .before .pre .4 rows l) (c .before .before .before .before .before .before .write-opt-in .ensures)),
-    )
+    let p = c .before .before .before .before .before .before .before .before .before .before .before .pre in
+    let C = sends.cachingBytes (a .mode) in
+    let q = c .before .before .cc2 .given .1 in
+    let w = subst (λ (z : CacheableCommand). sends.CommandSends (a .bytes .now) (a .src .now) (a .from) z) q (p .1) in
+    let e = ap (sends.missingWith (a .bytes .now) (a .head) (a .src .now) (a .from)) q in
+    (w .0, w .1, w .2, w .3, room-is _ _ _ _ e (room-second _ _ _ C (sends.missingWith (a .bytes .now) (a .head) (a .src .now) (a .from) (a .cc)) _ _ refl (p .2) (c .before .before .before .before .before .before .write-opt-in .ensures)))
 
 same-length : tie.Need-same-length
 same-length c = search needs
@@ -49,7 +46,10 @@ same-length c = search needs
 returns : tie.Need-returns
 returns c =
     let a = c .before .before .before .before .before .before .before .before .before .before .before .before .before .before .args in
-    λ rows l. wrote-both _ _ _ _ (sends.cachingBytes (a .g .mode)) (sends.packsBytes (a .g) rows (a .clock) (a .epoch) (a .bytes .now) (a .arena .now) (a .head) (a .cc)) _ _ _ (sends.caching-first (a .g) rows (a .clock) (a .epoch) (a .bytes .now) (a .arena .now) (a .head) (a .cc)) (c .before .before .before .before .before .before .before .before .before .before .before .before .before .before .pre .4 rows l) (c .before .before .before .before .before .before .before .before .before .write-opt-in .ensures) (wrote-as _ _ _ _ _ _ (sends.packs-single (a .g) rows (a .clock) (a .epoch) (a .bytes .now) (a .arena .now) (a .head) (a .cc) _ _ (c .before .before .before .before .before .cc .given .1)) (c .before .before .write-single .ensures))
+    let p = c .before .before .before .before .before .before .before .before .before .before .before .before .before .before .pre in
+    let C = sends.cachingBytes (a .mode) in
+    let e = ap (sends.missingWith (a .bytes .now) (a .head) (a .src .now) (a .from)) (c .before .before .before .before .before .cc .given .1) in
+    wrote-both _ _ _ _ C (sends.missingWith (a .bytes .now) (a .head) (a .src .now) (a .from) (a .cc)) _ _ _ refl (p .2) (c .before .before .before .before .before .before .before .before .before .write-opt-in .ensures) (wrote-as _ _ _ _ _ _ e (c .before .before .write-single .ensures))
 
 same-length-2 : tie.Need-same-length-2
 same-length-2 c = search needs
@@ -57,9 +57,10 @@ same-length-2 c = search needs
 returns-2 : tie.Need-returns-2
 returns-2 c =
     let a = c .before .before .before .before .before .before .before .before .before .before .before .before .before .before .args in
-    λ rows l.
-    let v = sends.multiple-inside (a .g) rows (a .clock) (a .epoch) (a .bytes .now) (a .arena .now) (a .head) (a .cc) _ _ _ (c .before .before .before .before .before .cc2 .given .1) (c .before .before .before .before .before .before .before .before .before .before .before .before .before .before .pre .3 rows l) in
-    wrote-both _ _ _ _ (sends.cachingBytes (a .g .mode)) (sends.packsBytes (a .g) rows (a .clock) (a .epoch) (a .bytes .now) (a .arena .now) (a .head) (a .cc)) _ _ _ (sends.caching-first (a .g) rows (a .clock) (a .epoch) (a .bytes .now) (a .arena .now) (a .head) (a .cc)) (c .before .before .before .before .before .before .before .before .before .before .before .before .before .before .pre .4 rows l) (c .before .before .before .before .before .before .before .before .before .write-opt-in .ensures) (wrote-as _ _ _ _ _ _ (sends.packs-multiple (a .g) rows (a .clock) (a .epoch) (a .bytes .now) (a .arena .now) (a .head) (a .cc) _ _ _ (c .before .before .before .before .before .cc2 .given .1) (v .0) (v .1) (v .2)) (c .before .before .write-several .ensures rows l))
+    let p = c .before .before .before .before .before .before .before .before .before .before .before .before .before .before .pre in
+    let C = sends.cachingBytes (a .mode) in
+    let e = ap (sends.missingWith (a .bytes .now) (a .head) (a .src .now) (a .from)) (c .before .before .before .before .before .cc2 .given .1) in
+    wrote-both _ _ _ _ C (sends.missingWith (a .bytes .now) (a .head) (a .src .now) (a .from) (a .cc)) _ _ _ refl (p .2) (c .before .before .before .before .before .before .before .before .before .write-opt-in .ensures) (wrote-as _ _ _ _ _ _ e (c .before .before .write-several .ensures))
 
 pub pack-command-spec : {M : Type 1} → statement M
 pack-command-spec =

@@ -1,6 +1,8 @@
 -- `sent_count` meets its contract, case by case. Assumes nothing.
+use mathlib.Core.Path.{sym, ap, subst, _∙_}
 use native.Mathlib.Omega.{arith}
-use Rattle.pack_command.specs.Sends as sends
+use Rattle.cached_cmd.specs.declared.CachingResult.{CachingResult}
+use Rattle.cached_cmd.specs.declared.CachingResult.the-variants.{Item}
 use Rattle.pipeline.specs.Counts as counts
 use borrow.Author.Needs.{needs}
 use Rattle.pipeline.proofs.sent_count.Statement.{statement}
@@ -22,43 +24,31 @@ opt-in-count-requires : tie.Need-opt-in-count-requires
 opt-in-count-requires c κs = search needs
 
 packs-count-requires : tie.Need-packs-count-requires
-packs-count-requires c κs =
-    let p = c .before .before .before .before .before .before .before .before .before .pre in
-    (p .0, p .1, λ rows l. sends.command-inside (c .before .before .before .before .before .before .before .before .before .args .g) rows (c .before .before .before .before .before .before .before .before .before .args .clock) (c .before .before .before .before .before .before .before .before .before .args .epoch) (c .before .before .before .before .before .before .before .before .before .args .bytes .now) (c .before .before .before .before .before .before .before .before .before .args .arena .now) (c .before .before .before .before .before .before .before .before .before .args .head) (c .before .before .before .before .before .before .before .before .before .args .r) _ (c .before .before .before .before .before .r .given .1) _ (c .before .before .i .given .1) (p .2 rows l))
+packs-count-requires c κs = subst (λ (z : CachingResult). counts.ResultFew z) (c .before .before .before .before .before .r .given .1 ∙ ap Item (c .before .before .i .given .1)) (c .before .before .before .before .before .before .before .pre)
 
 add-result : tie.Need-add-result
-add-result c =
-    let x = counts.opt-few (c .before .before .before .before .before .before .before .before .before .before .args .g .mode) in
-    let e = c .before .opt-in-count .ensures in
-    let y = c .packs-count .ensures .1 in
-    omega arith
+add-result c = let m = counts.opt-few (c .before .before .before .before .before .before .before .before .args .mode) in let x = c .before .opt-in-count .ensures in let y = c .packs-count .ensures .1 in omega arith
 
 enum-told-3 : tie.Need-enum-told-3
 enum-told-3 c = search needs
 
 returns : tie.Need-returns
-returns c =
-    (λ rows l. counts.count-ignored (c .before .before .before .before .args .g) rows (c .before .before .before .before .args .clock) (c .before .before .before .before .args .epoch) (c .before .before .before .before .args .bytes .now) (c .before .before .before .before .args .arena .now) (c .before .before .before .before .args .head) (c .before .before .before .before .args .r) (c .enum-told .given .1), omega arith)
+returns c = (ap (counts.countWith (c .before .before .args .mode)) (sym (c .enum-told .given .1)), omega arith)
 
 returns-2 : tie.Need-returns-2
-returns-2 c =
-    (λ rows l. counts.count-cached (c .before .before .before .before .before .before .before .args .g) rows (c .before .before .before .before .before .before .before .args .clock) (c .before .before .before .before .before .before .before .args .epoch) (c .before .before .before .before .before .before .before .args .bytes .now) (c .before .before .before .before .before .before .before .args .arena .now) (c .before .before .before .before .before .before .before .args .head) (c .before .before .before .before .before .before .before .args .r) _ (c .before .before .before .r .given .1) _ (c .enum-told2 .given .1), omega arith)
+returns-2 c = (ap (counts.countWith (c .before .before .before .before .before .args .mode)) (sym (c .before .before .before .r .given .1 ∙ ap Item (c .enum-told2 .given .1))), omega arith)
 
 returns-3 : tie.Need-returns-3
 returns-3 c =
-    let x = counts.opt-few (c .before .before .before .before .before .before .before .before .before .before .args .g .mode) in
-    let e = c .before .opt-in-count .ensures in
-    let y = c .packs-count .ensures .1 in (
-      λ rows l.
-          let k = c .packs-count .ensures .0 rows l in
-          let z = counts.count-missing (c .before .before .before .before .before .before .before .before .before .before .args .g) rows (c .before .before .before .before .before .before .before .before .before .before .args .clock) (c .before .before .before .before .before .before .before .before .before .before .args .epoch) (c .before .before .before .before .before .before .before .before .before .before .args .bytes .now) (c .before .before .before .before .before .before .before .before .before .before .args .arena .now) (c .before .before .before .before .before .before .before .before .before .before .args .head) (c .before .before .before .before .before .before .before .before .before .before .args .r) _ (c .before .before .before .before .before .before .r .given .1) _ (c .before .before .before .i .given .1) in
-          omega arith,
-      omega arith,
-    )
+    let m = counts.opt-few (c .before .before .before .before .before .before .before .before .args .mode) in
+    let x = c .before .opt-in-count .ensures in
+    let y = c .packs-count .ensures .1 in
+    let z = c .packs-count .ensures .0 in
+    let e = ap (counts.countWith (c .before .before .before .before .before .before .before .before .args .mode)) (sym (c .before .before .before .before .before .before .r .given .1 ∙ ap Item (c .before .before .before .i .given .1))) in
+    (omega arith, omega arith)
 
 returns-4 : tie.Need-returns-4
-returns-4 c =
-    (λ rows l. counts.count-not-cacheable (c .before .before .before .before .before .before .before .args .g) rows (c .before .before .before .before .before .before .before .args .clock) (c .before .before .before .before .before .before .before .args .epoch) (c .before .before .before .before .before .before .before .args .bytes .now) (c .before .before .before .before .before .before .before .args .arena .now) (c .before .before .before .before .before .before .before .args .head) (c .before .before .before .before .before .before .before .args .r) _ (c .before .before .before .r .given .1) (c .enum-told3 .given .1), omega arith)
+returns-4 c = (ap (counts.countWith (c .before .before .before .before .before .args .mode)) (sym (c .before .before .before .r .given .1 ∙ ap Item (c .enum-told3 .given .1))), omega arith)
 
 pub sent-count-spec : {M : Type 1} → statement M
 sent-count-spec =

@@ -2,7 +2,8 @@
 use mathlib.Core.Path.{refl}
 use native.Mathlib.Omega.{arith}
 use Rattle.plan_write.specs.Pieces.{range-short}
-use Rattle.several_keys.specs.Each.{told-hit, told-miss, part-in}
+use Rattle.cached_cmd.specs.Places.{told-hit, told-miss}
+use Rattle.several_keys.specs.Pieces.{wantAt, placeAt}
 use Rattle.several_keys.specs.Measure as laws
 use borrow.Author.Needs.{needs}
 use Rattle.several_keys.proofs.measure_key.Statement.{statement}
@@ -18,14 +19,14 @@ sub-t16 : tie.Need-sub-t16
 sub-t16 c =
     let r = c .before .before .before .before .before .before .before .pre .3 in
     let a = c .before .before .before .before .before .before .before .args in
-    let h = told-hit (a .g) (r .rows) (a .clock) (a .epoch) (a .bytes .now) (a .arena .now) (a .v) (a .key) (c .before .before .before .peek-key .result) _ _ (c .before .from .given .1) (c .before .before .before .peek-key .ensures (r .rows) (r .lent)) in
+    let h = told-hit (a .arena .now) (wantAt (a .bytes .now) (a .v) (a .key)) (placeAt (a .g) (r .rows) (a .clock) (a .epoch) (a .bytes .now) (a .v) (a .key)) (c .before .before .before .peek-key .result) _ _ (c .before .from .given .1) (c .before .before .before .peek-key .ensures (r .rows) (r .lent)) in
     h .0
 
 add-t17 : tie.Need-add-t17
 add-t17 c =
     let r = c .before .before .before .before .before .before .before .pre .3 in
     let a = c .before .before .before .before .before .before .before .args in
-    let h = told-hit (a .g) (r .rows) (a .clock) (a .epoch) (a .bytes .now) (a .arena .now) (a .v) (a .key) (c .before .before .before .peek-key .result) _ _ (c .before .from .given .1) (c .before .before .before .peek-key .ensures (r .rows) (r .lent)) in
+    let h = told-hit (a .arena .now) (wantAt (a .bytes .now) (a .v) (a .key)) (placeAt (a .g) (r .rows) (a .clock) (a .epoch) (a .bytes .now) (a .v) (a .key)) (c .before .before .before .peek-key .result) _ _ (c .before .from .given .1) (c .before .before .before .peek-key .ensures (r .rows) (r .lent)) in
     let e = h .1 in
     let m = r .lent .largest in
     omega arith
@@ -34,7 +35,7 @@ add-t18 : tie.Need-add-t18
 add-t18 c =
     let r = c .before .before .before .before .before .before .before .before .pre .3 in
     let a = c .before .before .before .before .before .before .before .before .args in
-    let h = told-hit (a .g) (r .rows) (a .clock) (a .epoch) (a .bytes .now) (a .arena .now) (a .v) (a .key) (c .before .before .before .before .peek-key .result) _ _ (c .before .before .from .given .1) (c .before .before .before .before .peek-key .ensures (r .rows) (r .lent)) in
+    let h = told-hit (a .arena .now) (wantAt (a .bytes .now) (a .v) (a .key)) (placeAt (a .g) (r .rows) (a .clock) (a .epoch) (a .bytes .now) (a .v) (a .key)) (c .before .before .before .before .peek-key .result) _ _ (c .before .before .from .given .1) (c .before .before .before .before .peek-key .ensures (r .rows) (r .lent)) in
     let e = h .1 in
     let m = r .lent .largest in
     let b = c .before .before .before .before .before .before .before .before .pre .4 .nodes in
@@ -55,7 +56,7 @@ missing-len-requires c κs =
     let a = c .before .before .before .before .before .before .before .before .args in
     let s = range-short (a .bytes .now) (a .key) _ (c .before .bytes-in .ensures) (p .1) in
     let m = p .2 in
-    (part-in (a .bytes .now) (a .v) (a .key) (p .0) (p .1) m, omega arith, m)
+    (laws.part-in (a .bytes .now) (a .v) (a .key) (p .0) (p .1) m, omega arith, m)
 
 add-t21 : tie.Need-add-t21
 add-t21 c =
@@ -84,12 +85,12 @@ returns : tie.Need-returns
 returns c =
     let q = c .before .before .before .before .before .before .before .before .pre .3 in
     let a = c .before .before .before .before .before .before .before .before .args in
-    let h = told-hit (a .g) (q .rows) (a .clock) (a .epoch) (a .bytes .now) (a .arena .now) (a .v) (a .key) (c .before .before .before .before .peek-key .result) _ _ (c .before .before .from .given .1) (c .before .before .before .before .peek-key .ensures (q .rows) (q .lent)) in
+    let h = told-hit (a .arena .now) (wantAt (a .bytes .now) (a .v) (a .key)) (placeAt (a .g) (q .rows) (a .clock) (a .epoch) (a .bytes .now) (a .v) (a .key)) (c .before .before .before .before .peek-key .result) _ _ (c .before .before .from .given .1) (c .before .before .before .before .peek-key .ensures (q .rows) (q .lent)) in
     let e = h .1 in
     let m = q .lent .largest in (
       λ rows l.
-          let k = told-hit (a .g) rows (a .clock) (a .epoch) (a .bytes .now) (a .arena .now) (a .v) (a .key) (c .before .before .before .before .peek-key .result) _ _ (c .before .before .from .given .1) (c .before .before .before .before .peek-key .ensures rows l) in
-          laws.more-filled (a .m) _ (a .arena .now) _ _ (k .0) (k .1) (k .2),
+          let k = told-hit (a .arena .now) (wantAt (a .bytes .now) (a .v) (a .key)) (placeAt (a .g) rows (a .clock) (a .epoch) (a .bytes .now) (a .v) (a .key)) (c .before .before .before .before .peek-key .result) _ _ (c .before .before .from .given .1) (c .before .before .before .before .peek-key .ensures rows l) in
+          laws.more-filled (a .m) _ _ _ (k .2) (k .3),
       record { number = omega arith; nodes = omega arith; keys = omega arith },
     )
 
@@ -102,7 +103,7 @@ returns-2 c =
     let y = f .1 in (
       λ rows l.
           laws.more-waiting (a .bytes .now) (a .v) (a .key) (p .0) (p .1) _ (c .before .before .before .before .before .bytes-in .ensures) _ _ (c .before .before .before .missing-len .ensures) (c .before .bulklen .ensures) (a .m) _
-          (told-miss (a .g) rows (a .clock) (a .epoch) (a .bytes .now) (a .arena .now) (a .v) (a .key) (c .before .before .before .before .before .before .before .before .peek-key .result) _ (c .before .before .before .before .before .before .enum-told .given .1) (c .before .before .before .before .before .before .before .before .peek-key .ensures rows l)),
+          (told-miss (a .arena .now) (wantAt (a .bytes .now) (a .v) (a .key)) (placeAt (a .g) rows (a .clock) (a .epoch) (a .bytes .now) (a .v) (a .key)) (c .before .before .before .before .before .before .before .before .peek-key .result) _ (c .before .before .before .before .before .before .enum-told .given .1) (c .before .before .before .before .before .before .before .before .peek-key .ensures rows l)),
       record { number = omega arith; nodes = omega arith; keys = omega arith },
     )
 

@@ -1,81 +1,69 @@
--- `write_waiting` meets its contract. Assumes nothing.
+-- `write_waiting` meets its contract: what is left is written behind what was. Assumes nothing.
+use mathlib.Core.Path.{_≡_, subst, _∙_}
+use Prim.Native.Nat.{ℕ, suc, _+_, _-_}
 use native.Mathlib.Omega.{arith}
-use Rattle.plan_write.specs.Wrote.{wrote-is, room-is}
-use Rattle.plan_write.specs.Pieces.{range-short}
-use Rattle.several_keys.specs.Each as each
-use borrow.Author.Needs.{needs}
+use native.Mathlib.Numerals.{add-one}
+use Rattle.buffer.specs.Copied.{Copied, copied-start}
+use Rattle.several_keys.specs.Pieces.{pieces}
+use Rattle.several_keys.specs.Source as laws
 use Rattle.several_keys.proofs.write_waiting.Statement.{statement}
 use Rattle.several_keys.proofs.write_waiting.Tie as tie
 
-bytes-in-requires : tie.Need-bytes-in-requires
-bytes-in-requires c κs = search needs
+abbrev Inv-loop : tie.InvT-loop
+Inv-loop dst₀ to what src n at₀ left₀ next₀ dst at left next =
+    laws.KeysIn src at left × Copied dst₀ to (pieces what (laws.keysAt src at₀ n)) dst next (pieces what (laws.keysAt src at left))
 
-enum-known-what : tie.Need-enum-known-what
-enum-known-what c = search needs
+abbrev μ-loop : tie.MeasureT-loop
+μ-loop dst₀ to what src n at₀ left₀ next₀ dst at left next = left
 
-write-missing-requires : tie.Need-write-missing-requires
-write-missing-requires c κs =
-    let p = c .before .before .before .before .before .before .before .before .pre in
-    let a = c .before .before .before .before .before .before .before .before .args in
-    let q = c .before .before .before .before .bytes-in .ensures in
-    let l = range-short (a .bytes .now) (a .key) _ q (p .1) in
-    let h = p .2 in
-    (each.part-in (a .bytes .now) (a .v) (a .key) (p .0) (p .1) (p .2), omega arith, h, room-is _ _ _ _ (each.node-bytes (a .bytes .now) (a .v) (a .key) (p .0) (p .1) (a .what) _ q _ (c .before .before .what .given .1)) (p .3))
+loop-holds : tie.Need-loop-holds Inv-loop μ-loop
+loop-holds c = let p = c .before .before .pre in (p .0, copied-start _ _ _ (p .1))
 
-enum-told : tie.Need-enum-told
-enum-told c = search needs
+place-at-requires : tie.Need-place-at-requires Inv-loop μ-loop
+place-at-requires c κs =
+    let n : ℕ = c .before .loop .left in
+    let q : n ≡ suc (n - 1) = omega arith in
+    laws.one-in _ _ (n - 1) (subst (λ (k : ℕ). laws.KeysIn (c .before .before .before .before .args .src .now) (c .before .loop .at) k) q (c .before .loop .inv .0))
 
-write-blob-requires : tie.Need-write-blob-requires
-write-blob-requires c κs =
-    let p = c .before .before .before .before .before .before .before .pre in let a = c .before .before .before .before .before .before .before .args in
-    room-is _ _ _ _ (each.key-bytes (a .bytes .now) (a .v) (a .key) (p .0) (p .1) (a .what) _ (c .before .before .before .bytes-in .ensures) (c .before .enum-told .given .1)) (p .3)
+write-place-requires : tie.Need-write-place-requires Inv-loop μ-loop
+write-place-requires c κs =
+    let a = c .before .before .before .before .before .before .before .args in
+    let n : ℕ = c .before .before .before .before .loop .left in
+    let q : n ≡ n - 1 + 1 = omega arith in
+    let s = c .before .before .place-at .ensures (n - 1) (subst (λ (k : ℕ). laws.KeysIn (a .src .now) (c .before .before .before .before .loop .at) k) (q ∙ add-one (n - 1)) (c .before .before .before .before .loop .inv .0)) in
+    (s .inside, laws.keys-room (a .what) (a .src .now) _ _ _ _ _ (c .before .before .before .before .loop .at) (c .before .before .place-at .result) n (n - 1) q s (c .before .before .before .before .loop .inv .1))
 
-enum-told-2 : tie.Need-enum-told-2
-enum-told-2 c = search needs
+sub-left : tie.Need-sub-left Inv-loop μ-loop
+sub-left c = omega arith
 
-write-pttl-requires : tie.Need-write-pttl-requires
-write-pttl-requires c κs =
-    let p = c .before .before .before .before .before .before .before .pre in let a = c .before .before .before .before .before .before .before .args in
-    room-is _ _ _ _ (each.pttl-bytes (a .bytes .now) (a .v) (a .key) (p .0) (p .1) (a .what) _ (c .before .before .before .bytes-in .ensures) (c .before .enum-told2 .given .1)) (p .3)
+loop-less : tie.Need-loop-less Inv-loop μ-loop
+loop-less c = omega arith
 
-same-length : tie.Need-same-length
-same-length c = search needs
+loop-again : tie.Need-loop-again Inv-loop μ-loop
+loop-again c =
+    let a = c .before .before .before .before .before .before .before .before .before .before .args in
+    let n : ℕ = c .before .before .before .before .before .before .before .loop .left in
+    let q : n ≡ n - 1 + 1 = omega arith in
+    let s = c .before .before .before .before .before .place-at .ensures (n - 1) (subst (λ (k : ℕ). laws.KeysIn (a .src .now) (c .before .before .before .before .before .before .before .loop .at) k) (q ∙ add-one (n - 1)) (c .before .before .before .before .before .before .before .loop .inv .0)) in
+    (s .others, laws.keys-step (a .what) (a .src .now) _ _ _ _ _ (c .before .before .before .before .before .before .before .loop .at) (c .before .before .before .before .before .place-at .result) n (n - 1) q s (c .before .before .before .before .before .before .before .loop .inv .1) _ _ (c .before .before .write-place .ensures))
 
-returns : tie.Need-returns
-returns c =
-    let p = c .before .before .before .before .before .before .before .before .before .before .before .pre in let a = c .before .before .before .before .before .before .before .before .before .before .before .args in
-    wrote-is _ _ _ _ _ _ (each.node-bytes (a .bytes .now) (a .v) (a .key) (p .0) (p .1) (a .what) _ (c .before .before .before .before .before .before .before .bytes-in .ensures) _ (c .before .before .before .before .before .what .given .1)) (c .before .before .write-missing .ensures)
+same-length : tie.Need-same-length Inv-loop μ-loop
+same-length c = c .before .loop .inv .1 .long
 
-same-length-2 : tie.Need-same-length-2
-same-length-2 c = search needs
-
-returns-2 : tie.Need-returns-2
-returns-2 c =
-    let p = c .before .before .before .before .before .before .before .before .before .before .pre in let a = c .before .before .before .before .before .before .before .before .before .before .args in
-    wrote-is _ _ _ _ _ _ (each.key-bytes (a .bytes .now) (a .v) (a .key) (p .0) (p .1) (a .what) _ (c .before .before .before .before .before .before .bytes-in .ensures) (c .before .before .before .before .enum-told .given .1)) (c .before .before .write-blob .ensures)
-
-same-length-3 : tie.Need-same-length-3
-same-length-3 c = search needs
-
-returns-3 : tie.Need-returns-3
-returns-3 c =
-    let p = c .before .before .before .before .before .before .before .before .before .before .pre in let a = c .before .before .before .before .before .before .before .before .before .before .args in
-    wrote-is _ _ _ _ _ _ (each.pttl-bytes (a .bytes .now) (a .v) (a .key) (p .0) (p .1) (a .what) _ (c .before .before .before .before .before .before .bytes-in .ensures) (c .before .before .before .before .enum-told2 .given .1)) (c .before .before .write-pttl .ensures)
+returns : tie.Need-returns Inv-loop μ-loop
+returns c = let a = c .before .before .before .before .args in laws.keys-done (a .what) (a .src .now) _ _ _ _ _ (c .before .loop .at) (c .before .loop .left) (omega arith) (c .before .loop .inv .1)
 
 pub write-waiting-spec : {M : Type 1} → statement M
 write-waiting-spec =
     tie.close
     (tie.spec
-    bytes-in-requires
-    enum-known-what
-    write-missing-requires
-    enum-told
-    write-blob-requires
-    enum-told-2
-    write-pttl-requires
+    Inv-loop
+    μ-loop
+    loop-holds
+    place-at-requires
+    write-place-requires
+    sub-left
+    loop-less
+    loop-again
     same-length
-    returns
-    same-length-2
-    returns-2
-    same-length-3
-    returns-3)
+    returns)

@@ -7,7 +7,7 @@ size-of-requires : tie.Need-size-of-requires
 size-of-requires c κs = search needs
 
 returns : tie.Need-returns
-returns c = λ rows o. c .before .size-of .ensures rows o .send
+returns c = λ rows o. c .size-of .ensures rows o .send
 
 pub command-len-spec : {M : Type 1} → statement M
 command-len-spec = tie.close (tie.spec size-of-requires returns)

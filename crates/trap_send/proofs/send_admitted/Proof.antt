@@ -16,7 +16,7 @@ enum-told-2 : tie.Need-enum-told-2
 enum-told-2 c = search needs
 
 send-record-requires : tie.Need-send-record-requires
-send-record-requires c κs = let w = c .before .before .before .before .before .before .before .pre in let l = w .1 in (w .0, omega arith, sym (c .before .before .before .check .ensures) ∙ c .before .enum-told2 .given .1)
+send-record-requires c κs = let w = c .before .before .before .before .before .before .before .pre in let l = w .1 in (w .0, omega arith, sym (c .before .before .before .check .ensures) ∙ c .before .enum-told2 .given .1, w .2)
 
 returns : tie.Need-returns
 returns c = let a = c .before .before .before .before .before .before .args in (λ rows n next o. laws.record-wrong (a .bytes .now) (a .out .now) (a .arena .now) (a .g) rows n next (c .before .before .before .before .before .before .pre .1) _ (sym (c .before .before .check .ensures) ∙ c .enum-told .given .1), tt)

@@ -4,6 +4,7 @@ use Prim.Native.Nat.{ℕ}
 use native.Mathlib.Omega.{arith}
 use lib.ListN.{replicate}
 use Rattle.sharded_lru.specs.Admit.{enter}
+use Rattle.trap_send.specs.Blank.{zeros-blank}
 use Rattle.trap_send.specs.Laws as laws
 use borrow.Author.Needs.{needs}
 use Rattle.trap_send.proofs.send_bytes.Statement.{statement}
@@ -34,7 +35,9 @@ slice-aggregate-send-admitted : tie.Need-slice-aggregate-send-admitted
 slice-aggregate-send-admitted c = search needs
 
 send-admitted-requires : tie.Need-send-admitted-requires
-send-admitted-requires c κs = (enter 4 0 1800000 _ _ (sym (c .before .before .before .before .before .admit .ensures) ∙ c .before .before .before .g .given .1), omega arith)
+send-admitted-requires c κs =
+    let w = enter 4 0 1800000 _ _ (sym (c .before .before .before .before .before .admit .ensures) ∙ c .before .before .before .g .given .1) in
+    (w, omega arith, zeros-blank _ _ w (laws.fresh-zeros _ (c .before .before .before .before .before .before .before .before .setup .ensures .1)))
 
 returns-2 : tie.Need-returns-2
 returns-2 c =

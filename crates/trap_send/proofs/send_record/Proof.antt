@@ -38,7 +38,7 @@ write-pipeline-requires : tie.Need-write-pipeline-requires
 write-pipeline-requires c κs =
     let w = c .before .before .before .before .before .before .before .before .before .before .before .before .pre in
     let a = c .before .before .before .before .before .before .before .before .before .before .before .before .args in
-    (laws.ahead (a .bytes .now) (a .out .now) (a .arena .now) (a .g) _ (c .before .before .before .before .before .before .before .before .commands-of .ensures) (fit (a .bytes .now) (w .2)) (sym (c .before .before .before .before .before .before .before .any-late .ensures) ∙ c .before .before .before .before .before .before .if1 .left), w .1, w .0, laws.room-fits (a .out .now) (a .arena .now) (a .g) _ (commandsOf (a .bytes .now) _) _ _ _ (c .before .before .before .before .wrap-len .ensures) (c .before .before .before .spend .ensures) (c .before .before .send-room .ensures) (c .before .if2 .left))
+    (laws.ahead (a .bytes .now) (a .out .now) (a .arena .now) (a .g) _ (c .before .before .before .before .before .before .before .before .commands-of .ensures) (fit (a .bytes .now) (w .2)) (sym (c .before .before .before .before .before .before .before .any-late .ensures) ∙ c .before .before .before .before .before .before .if1 .left), w .1, w .0, laws.room-fits (a .out .now) (a .arena .now) (a .g) _ (commandsOf (a .bytes .now) _) _ _ _ (c .before .before .before .before .wrap-len .ensures) (c .before .before .before .spend .ensures) (c .before .before .send-room .ensures) (c .before .if2 .left), w .3)
 
 same-length : tie.Need-same-length
 same-length c = search needs

@@ -1,42 +1,41 @@
 -- `trap_send::write_command` meets its contract. Assumes nothing.
-use mathlib.Core.Path.{sym, ap, subst}
-use Prim.Native.Nat.{_+_, _≤_}
-use lib.ListN.{length}
+use mathlib.Core.Path.{ap, _∙_}
+use Prim.Native.Nat.{ℕ}
 use Rattle.cursor.specs.At.{commandOf}
-use Rattle.planning.specs.Outcome.{CachingResult}
-use Rattle.planning.specs.Sent.{sends, sentBytes}
-use Rattle.plan_write.specs.Wrote.{wrote-as}
+use Rattle.book.specs.Book.{Row}
+use Rattle.plan_write.specs.Wrote.{wrote-as, room-is}
+use Rattle.sharded_lru.specs.Lent.{setupNow}
+use Rattle.plan_sizes.specs.Sizes.{sentFor}
 use borrow.Author.Needs.{needs}
 use Rattle.trap_send.proofs.write_command.Statement.{statement}
 use Rattle.trap_send.proofs.write_command.Tie as tie
 
-get-cached-cmd-requires : tie.Need-get-cached-cmd-requires
-get-cached-cmd-requires c κs = let w = c .before .before .before .pre in (w .0 .here, w .0 .times, w .1, w .2)
+all-wait-requires : tie.Need-all-wait-requires
+all-wait-requires c κs = let w = c .before .before .before .pre in (w .0, w .1)
 
 write-sent-requires : tie.Need-write-sent-requires
 write-sent-requires c κs =
+    let a = c .before .before .before .before .before .args in
     let w = c .before .before .before .before .before .pre in
-    let a = c .before .before .before .before .before .args in (
-      w .0 .here,
-      w .1,
-      w .2,
-      λ rows o. c .before .get-cached-cmd .ensures rows o .inside,
-      λ rows o. subst (λ (z : CachingResult). a .to + length (sentBytes (sends (a .g .mode) (commandOf (a .bytes .now) (a .head)) z)) ≤ length (a .out .now)) (sym (c .before .get-cached-cmd .ensures rows o .is)) (w .3 rows o),
-    )
+    let q = w .2 in
+    let k = c .before .all-wait .ensures (a .epoch) in
+    (w .0 .here, k .inside, room-is _ _ _ _ (ap (λ (z : ℕ → Row). sentFor (setupNow (a .g)) z (a .clock) (a .epoch) (a .g) (commandOf (a .bytes .now) (a .head))) (w .4 .none (q .rows) (q .lent)) ∙ k .sent) (w .3 (q .rows) (q .lent)))
 
 same-length : tie.Need-same-length
 same-length c = search needs
 
 returns : tie.Need-returns
-returns c = λ rows o.
+returns c =
     let a = c .before .before .before .before .before .before .before .before .args in
-    wrote-as _ _ _ _ _ _ (ap (λ (z : CachingResult). sentBytes (sends (a .g .mode) (commandOf (a .bytes .now) (a .head)) z)) (sym (c .before .before .before .before .get-cached-cmd .ensures rows o .is))) (c .before .before .write-sent .ensures rows o)
+    let w = c .before .before .before .before .before .before .before .before .pre in
+    let k = c .before .before .before .before .all-wait .ensures (a .epoch) in
+    λ rows o. wrote-as _ _ _ _ _ _ (ap (λ (z : ℕ → Row). sentFor (setupNow (a .g)) z (a .clock) (a .epoch) (a .g) (commandOf (a .bytes .now) (a .head))) (w .4 .none rows o) ∙ k .sent) (c .before .before .write-sent .ensures)
 
 pub write-command-spec : {M : Type 1} → statement M
 write-command-spec =
     tie.close
     (tie.spec
-    get-cached-cmd-requires
+    all-wait-requires
     write-sent-requires
     same-length
     returns)

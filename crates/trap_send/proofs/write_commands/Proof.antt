@@ -26,7 +26,7 @@ write-command-requires : tie.Need-write-command-requires Inv-loop μ-loop
 write-command-requires c κs =
     let w = c .before .before .before .before .before .before .before .pre in
     let i = c .before .before .before .loop .inv in
-    (planable-first _ _ _ _ _ _ (one-more _ (λ z. omega arith)) (c .before .before .before .loop .inv .ahead) _ (c .before .head-at .ensures), w .1, w .2, laws.writing-room _ _ _ _ _ _ _ _ _ _ _ _ _ _ (one-more _ (λ z. omega arith)) (c .before .head-at .ensures) _ _ refl i)
+    (planable-first _ _ _ _ _ _ (one-more _ (λ z. omega arith)) (c .before .before .before .loop .inv .ahead) _ (c .before .head-at .ensures), w .1, w .2, laws.writing-room _ _ _ _ _ _ _ _ _ _ _ _ _ _ (one-more _ (λ z. omega arith)) (c .before .head-at .ensures) _ _ refl i, w .4)
 
 args-end-requires : tie.Need-args-end-requires Inv-loop μ-loop
 args-end-requires c κs = planable-first _ _ _ _ _ _ (one-more _ (λ z. omega arith)) (c .before .before .before .before .before .before .loop .inv .ahead) _ (c .before .before .before .before .head-at .ensures) .here
