@@ -98,12 +98,14 @@ module _ (isValue : Bytes → Bool) (s : Bytes) (end : ℕ) where
       )
 
   -- and an entry passes
-  pub entry-passes : length s < 256 ^ 4 → (A B : Bytes) (en : Entry) → s ≡ A ++ (encEntry en ++ B) → GoodEntry isValue en → length A + length (encEntry en) ≤ end
+  pub entry-passes : length s < 256 ^ 4 → (A B : Bytes) (en : Entry) → s ≡ A ++ (encEntry en ++ B) → GoodEntry isValue en
+      → length A + length (encEntry en) ≤ end
       → EntryStands (length A) en
   unfolding entryOk
   entry-passes l A B en e g h =
       let Z : Bytes = encEntry en ++ B in
-      let ls : length s ≡ length A + (length (encEntry en) + length B) = ap length e ∙ length-append A Z ∙ ap (λ (n : ℕ). length A + n) (length-append (encEntry en) B) in
+      let ls : length s ≡ length A + (length (encEntry en) + length B) = ap length e ∙ length-append A Z
+      ∙ ap (λ (n : ℕ). length A + n) (length-append (encEntry en) B) in
       let le = length-entry en in
       let c : read32 s (length A) ≡ length (en .command) = read-first s A Z e 4 ∙ command-length en B (omega arith) in
       let v : read32 s (length A + 4) ≡ length (en .value) = read-behind s A Z e 4 4 ∙ value-length en B (omega arith) in
@@ -115,7 +117,10 @@ module _ (isValue : Bytes → Bool) (s : Bytes) (end : ℕ) where
       record {
         passes = yes-every _ (
           le-leb (length A + 16) end (omega arith),
-          (le-leb (entryNext s (length A)) end (omega arith), (z, (le-leb (read32 s (length A)) maxBytes (subst (λ (n : ℕ). n ≤ maxBytes) (sym c) (g .0)), (ap isValue value ∙ g .1, tt)))),
+          (
+            le-leb (entryNext s (length A)) end (omega arith),
+            (z, (le-leb (read32 s (length A)) maxBytes (subst (λ (n : ℕ). n ≤ maxBytes) (sym c) (g .0)), (ap isValue value ∙ g .1, tt))),
+          ),
         );
         good = g;
         keyed = key;
@@ -138,9 +143,11 @@ module _ (isValue : Bytes → Bool) (s : Bytes) (end : ℕ) where
   pub entries-found : Octets s → end ≤ length s → (n first e : ℕ) → entriesEnd isValue s end n first ≡ e → 0 < e → EntriesThere first e n
   unfolding entriesEnd encEntries
   entries-found b h n first e w p =
-      let f = walk-found encEntry (λ en. en .command) (GoodEntry isValue) s (entryOk isValue s end) (entryNext s) (commandAt s) (entry-found b h) first n e w p in
+      let f = walk-found encEntry (λ en. en .command) (GoodEntry isValue) s (entryOk isValue s end) (entryNext s) (commandAt s)
+      (entry-found b h) first n e w p in
       let g =
-      run-bytes encEntry (λ en. en .command) (GoodEntry isValue) s (entryOk isValue s end) (entryNext s) (commandAt s) encEntries refl (λ x xs. refl) first e (f .things) (f .run) in
+      run-bytes encEntry (λ en. en .command) (GoodEntry isValue) s (entryOk isValue s end) (entryNext s) (commandAt s) encEntries refl
+      (λ x xs. refl) first e (f .things) (f .run) in
       let l = length-entries (f .things) in
       record {
         entries = f .things;
@@ -158,7 +165,9 @@ module _ (isValue : Bytes → Bool) (s : Bytes) (end : ℕ) where
   entries-pass l A B ens e g d h =
       let n = length-entries ens in
       let r =
-      bytes-run encEntry (λ en. en .command) (GoodEntry isValue) s (entryOk isValue s end) (entryNext s) (commandAt s) encEntries refl (λ x xs. refl) end (entry-passes l) A B ens e g
+      bytes-run encEntry (λ en. en .command) (GoodEntry isValue) s (entryOk isValue s end) (entryNext s) (commandAt s) encEntries refl (λ x xs. refl) end
+      (entry-passes l) A B ens e g
       (omega arith) in
-      found-walk encEntry (λ en. en .command) (GoodEntry isValue) s (entryOk isValue s end) (entryNext s) (commandAt s) (length A) (length A + length (encEntries ens)) ens r (commands-differ ens d)
+      found-walk encEntry (λ en. en .command) (GoodEntry isValue) s (entryOk isValue s end) (entryNext s) (commandAt s) (length A)
+      (length A + length (encEntries ens)) ens r (commands-differ ens d)
       ∙ ap (λ (i : ℕ). length A + i) n

@@ -85,7 +85,8 @@ module _ (isValue : Bytes → Bool) (p : Setup) (s : Bytes) (shard end : ℕ) wh
       let lk : length (keyAt s at) ≡ read32 s at = length-part s (at + 32) (read32 s at) (omega arith) in
       let some-entry : 1 ≤ read32 s (at + 4) = leb-true _ _ (w .1 .1 .1 .1 .1 .0) in
       let g : EntriesThere isValue s (itemNext s at) (entriesAt s at) (itemNext s at) (read32 s (at + 4)) =
-      entries-found isValue s (itemNext s at) b (omega arith) (read32 s (at + 4)) (entriesAt s at) (itemNext s at) (eqb-true _ _ (w .1 .1 .1 .1 .1 .1 .0)) (omega arith) in
+      entries-found isValue s (itemNext s at) b (omega arith) (read32 s (at + 4)) (entriesAt s at) (itemNext s at) (eqb-true _ _ (w .1 .1 .1 .1 .1 .1 .0))
+      (omega arith) in
       let m : entryBytes (g .entries) ≡ read32 s (at + 24) = omega (arith, g .ends) in
       let c = g .count in
       let short : length (keyAt s at) ≤ maxKey = rw lk (leb-true _ _ (w .1 .1 .1 .0)) in (
@@ -124,7 +125,8 @@ module _ (isValue : Bytes → Bool) (p : Setup) (s : Bytes) (shard end : ℕ) wh
       let split : s ≡ F ++ (encEntries (it .entries) ++ B) = e ∙ simp append-assoc in
       let n : length F ≡ length A + (32 + length (it .key)) = simp (length-append, length-itemHead) in
       let m = length-item it in
-      let there = entries-pass isValue s (length A + length (encItem it)) l F B (it .entries) split (storable-entries (it .key) (it .entries) (g .fits .entries)) (g .sound .commands) (omega arith) in
+      let there = entries-pass isValue s (length A + length (encItem it)) l F B (it .entries) split
+      (storable-entries (it .key) (it .entries) (g .fits .entries)) (g .sound .commands) (omega arith) in
       let to : length F + entryBytes (it .entries) ≡ length A + length (encItem it) = omega arith in
       ap (entriesEnd isValue s (length A + length (encItem it)) (length (it .entries))) (sym n) ∙ there ∙ to
 
@@ -133,7 +135,8 @@ module _ (isValue : Bytes → Bool) (p : Setup) (s : Bytes) (shard end : ℕ) wh
   unfolding itemOk rowBytes
   item-passes l A B it e g h =
       let Z : Bytes = encItem it ++ B in
-      let ls : length s ≡ length A + (length (encItem it) + length B) = ap length e ∙ length-append A Z ∙ ap (λ (n : ℕ). length A + n) (length-append (encItem it) B) in
+      let ls : length s ≡ length A + (length (encItem it) + length B) = ap length e ∙ length-append A Z
+      ∙ ap (λ (n : ℕ). length A + n) (length-append (encItem it) B) in
       let m = length-item it in
       let small : Small it = row-small isValue p (it ∷ []) (omega arith) (g .fits, tt) .0 in
       let k : read32 s (length A) ≡ length (it .key) = read-first s A Z e 4 ∙ key-length it B small in
@@ -206,7 +209,8 @@ module _ (isValue : Bytes → Bool) (p : Setup) (s : Bytes) (shard end : ℕ) wh
   items-found b h n e w q =
       let f = walk-found encItem (λ i. i .key) GoodItem s (itemOk isValue (p .shardOf) s shard end) (itemNext s) (keyAt s) (item-found b h) 16 n e w q in
       let g =
-      run-bytes encItem (λ i. i .key) GoodItem s (itemOk isValue (p .shardOf) s shard end) (itemNext s) (keyAt s) encItems refl (λ x xs. refl) 16 e (f .things) (f .run) in
+      run-bytes encItem (λ i. i .key) GoodItem s (itemOk isValue (p .shardOf) s shard end) (itemNext s) (keyAt s) encItems refl (λ x xs. refl) 16 e
+      (f .things) (f .run) in
       let l = length-items (f .things) in
       record {
         row = f .things;
@@ -224,9 +228,11 @@ module _ (isValue : Bytes → Bool) (p : Setup) (s : Bytes) (shard end : ℕ) wh
   items-pass l A B row a e g d h =
       let n = length-items row in
       let r =
-      bytes-run encItem (λ i. i .key) GoodItem s (itemOk isValue (p .shardOf) s shard end) (itemNext s) (keyAt s) encItems refl (λ x xs. refl) end (item-passes l) A B row e g
+      bytes-run encItem (λ i. i .key) GoodItem s (itemOk isValue (p .shardOf) s shard end) (itemNext s) (keyAt s) encItems refl (λ x xs. refl) end
+      (item-passes l) A B row e g
       (omega arith) in
       let walked =
-      found-walk encItem (λ i. i .key) GoodItem s (itemOk isValue (p .shardOf) s shard end) (itemNext s) (keyAt s) (length A) (length A + length (encItems row)) row r (keys-differ row d) in
+      found-walk encItem (λ i. i .key) GoodItem s (itemOk isValue (p .shardOf) s shard end) (itemNext s) (keyAt s) (length A)
+      (length A + length (encItems row)) row r (keys-differ row d) in
       subst (λ (i : ℕ). walk (keyAt s) (itemNext s) (itemOk isValue (p .shardOf) s shard end) i 0 (length row) i ≡ i + length (encItems row)) a walked
       ∙ ap (λ (i : ℕ). 16 + i) n

@@ -53,14 +53,16 @@ module _ (isValue : Bytes → Bool) (p : Setup) (s : Bytes) (b : Octets s) (z : 
 
   -- ---- what passes is an image
 
-  each-passes : (n : ℕ) → shardsOk isValue (p .shardOf) (p .keys) (p .bytes) s n ≡ true → (i : ℕ) → i < n → shardOk isValue (p .shardOf) (p .keys) (shard i) i ≡ true
+  each-passes : (n : ℕ) → shardsOk isValue (p .shardOf) (p .keys) (p .bytes) s n ≡ true → (i : ℕ) → i < n
+      → shardOk isValue (p .shardOf) (p .keys) (shard i) i ≡ true
   unfolding shardsOk
   each-passes zero e i l = absurd (omega arith)
   each-passes (suc n) e i l =
       let w = every-yes _ e in
       byTest (ltb i n) (λ q. each-passes n (w .1 .0) i (ltb-true i n q))
       (λ q.
-      let same-place : i ≡ n = omega (arith, ltb-false i n q) in subst (λ (j : ℕ). shardOk isValue (p .shardOf) (p .keys) (shard j) j ≡ true) (sym same-place) (w .0))
+      let same-place : i ≡ n = omega (arith, ltb-false i n q) in
+      subst (λ (j : ℕ). shardOk isValue (p .shardOf) (p .keys) (shard j) j ≡ true) (sym same-place) (w .0))
 
   here : (i : ℕ) → i < p .shards → readArena p s i ≡ readShard (shard i)
   unfolding readArena

@@ -88,7 +88,8 @@ module _ (isValue : Bytes → Bool) (p : Setup) (s : Bytes) (shard : ℕ) where
       subst ShardOf (sym row-is) (g .1)
 
   -- and the shard of a well-formed row passes
-  pub shard-passes : length s < 256 ^ 4 → 16 ≤ length s → length s ≡ p .bytes → (row : Row) → ShardOf row → shardOk isValue (p .shardOf) (p .keys) s shard ≡ true
+  pub shard-passes : length s < 256 ^ 4 → 16 ≤ length s → length s ≡ p .bytes → (row : Row) → ShardOf row
+      → shardOk isValue (p .shardOf) (p .keys) s shard ≡ true
   unfolding shardOk encShard
   shard-passes l h n row g =
       let used : ℕ = rowBytes row in

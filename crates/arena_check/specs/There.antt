@@ -17,7 +17,8 @@ pub zeros-there : (s : Bytes) (at n : ℕ) → at + n ≤ length s → allZero (
 zeros-there s at n h e = passed-zeros (part s at n) e ∙ ap zeros (length-part s at n h)
 
 -- the head of an entry or a shard that stands there
-pub head-there : (s : Bytes) (at : ℕ) → Octets s → at + 16 ≤ length s → allZero (part s (at + 8) 8) ≡ true → part s at 16 ≡ head (read32 s at) (read32 s (at + 4))
+pub head-there : (s : Bytes) (at : ℕ) → Octets s → at + 16 ≤ length s → allZero (part s (at + 8) 8) ≡ true
+    → part s at 16 ≡ head (read32 s at) (read32 s (at + 4))
 unfolding head
 head-there s at b h e =
     let i : at + 4 + 4 ≡ at + 8 = omega arith in

@@ -176,7 +176,8 @@ module _ {X : Type 0} (enc : X → Bytes) (key : X → Bytes) (Good : X → Type
     bytes-run end f A B [] e w h = let z : length (encAll []) ≡ 0 = ap length none in omega arith
     bytes-run end f A B (x ∷ xs) e w h =
         let l : length (encAll (x ∷ xs)) ≡ length (enc x) + length (encAll xs) = ap length (more x xs) ∙ length-append (enc x) (encAll xs) in
-        let apart : s ≡ A ++ (enc x ++ (encAll xs ++ B)) = e ∙ ap (λ (z : Bytes). A ++ (z ++ B)) (more x xs) ∙ ap (λ (z : Bytes). A ++ z) (append-assoc (enc x) (encAll xs) B) in
+        let apart : s ≡ A ++ (enc x ++ (encAll xs ++ B)) = e ∙ ap (λ (z : Bytes). A ++ (z ++ B)) (more x xs)
+        ∙ ap (λ (z : Bytes). A ++ z) (append-assoc (enc x) (encAll xs) B) in
         let further : s ≡ (A ++ enc x) ++ (encAll xs ++ B) = apart ∙ sym (append-assoc A (enc x) (encAll xs ++ B)) in
         let here : Stands (length A) x = f A (encAll xs ++ B) x apart (w .0) (omega arith) in
         let n : length (A ++ enc x) ≡ length A + length (enc x) = length-append A (enc x) in

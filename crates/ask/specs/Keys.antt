@@ -33,7 +33,8 @@ pub several-name : (n : Bytes) (json : Bool) → multiKey n ≡ severalOf json �
 unfolding multiKey severalName
 several-name n true q =
     byTest (same n (ascii "MGET")) (λ t. let y : Mget ≡ JsonMget = rw t at q in let z : _≡_ {A = ℕ} 0 1 = cc in absurd (omega arith))
-    (λ t. byTest (same n (ascii "JSON.MGET")) (λ u. sym (same-eq _ _ u)) (λ u. let y : None ≡ JsonMget = rw (t, u) at q in let z : _≡_ {A = ℕ} 0 1 = cc in absurd (omega arith)))
+    (λ t. byTest (same n (ascii "JSON.MGET")) (λ u. sym (same-eq _ _ u))
+    (λ u. let y : None ≡ JsonMget = rw (t, u) at q in let z : _≡_ {A = ℕ} 0 1 = cc in absurd (omega arith)))
 several-name n false q =
     byTest (same n (ascii "MGET")) (λ t. sym (same-eq _ _ t))
     (λ t. byTest (same n (ascii "JSON.MGET")) (λ u. let y : JsonMget ≡ Mget = rw (t, u) at q in let z : _≡_ {A = ℕ} 0 1 = cc in absurd (omega arith))

@@ -26,7 +26,9 @@ use Rattle.ask.specs.declared.Asked.the-variants.{SeveralKeys}
 -- where there is a name there is an argument
 pub name-left : (s : Bytes) (k : Args) → HasName (argsOf s k) → 0 < k .left
 unfolding HasName
-name-left s k h = byTest (ltb 0 (k .left)) (λ t. ltb-true 0 (k .left) t) (λ t. let z = args-none s (k .left) (k .at) (let y = ltb-false 0 (k .left) t in omega arith) in absurd (rw z at h))
+name-left s k h =
+    byTest (ltb 0 (k .left)) (λ t. ltb-true 0 (k .left) t)
+    (λ t. let z = args-none s (k .left) (k .at) (let y = ltb-false 0 (k .left) t in omega arith) in absurd (rw z at h))
 
 module _ (n : Bytes) (l : List Argument) (x : ℕ) where
   -- several keys
@@ -35,7 +37,8 @@ module _ (n : Bytes) (l : List Argument) (x : ℕ) where
   unfolding plan.askBy
   named-several s true v q w = (
     ap₂ (λ (ks : List Bytes) (path : List Bytes). plan.severalKeys (severalName (v .json)) ks path x) (w .keys) (w .path)
-        ∙ ap (λ (m : Bytes). plan.severalKeys m (plan.butLast (plan.afterName l)) (plan.lastOnly (plan.afterName l)) x) (ap severalName (w .is) ∙ several-name n true q)
+        ∙ ap (λ (m : Bytes). plan.severalKeys m (plan.butLast (plan.afterName l)) (plan.lastOnly (plan.afterName l)) x)
+        (ap severalName (w .is) ∙ several-name n true q)
         ∙ rw q,
     w .inside,
   )

@@ -218,7 +218,15 @@ module _ (s : Bytes) (whole k : Args) (f : SimpleArgs) (p : ArgsHere s whole × 
       let c = x .count in
       record {
         is = refl;
-        inside = record { here = w; inside = (omega arith, h); enough = omega arith; joins = sym (none-bytes s (k .at)); alone = λ z. absurd (true≢false (sym z)) };
+        inside =
+            record {
+              here = w;
+              inside = (omega arith, h);
+              enough = omega arith;
+              joins = sym (none-bytes s (k .at));
+              alone = λ z. absurd
+                  (true≢false (sym z));
+            };
         keys = ap (λ (n : ℕ). take n (simplesOf s k)) c ∙ take-length (simplesOf s k) ∙ sym q;
         path = refl;
       }
@@ -230,7 +238,15 @@ module _ (s : Bytes) (whole k : Args) (f : SimpleArgs) (p : ArgsHere s whole × 
       let n : simplesOf s k ≡ [] = nil-length (simplesOf s k) (sym (x .count) ∙ z) in
       record {
         is = refl;
-        inside = record { here = w; inside = (omega arith, h); enough = omega arith; joins = rw n (sym (none-bytes s (k .at))); alone = λ u v. absurd (omega arith) };
+        inside =
+            record {
+              here = w;
+              inside = (omega arith, h);
+              enough = omega arith;
+              joins = rw n (sym (none-bytes s (k .at)));
+              alone = λ u v. absurd
+                  (omega arith);
+            };
         keys = rw (q, n);
         path = rw (q, n);
       }

@@ -43,9 +43,11 @@ same-turn a b from i x f l m e =
     let g : ℕ = getD a i 0 in
     let h : ℕ = getD b i 0 in
     let la : length (part a from k) ≡ length (part b from k) = length-part a from k (omega arith) ∙ sym (length-part b from k (omega arith)) in
-    let bit : eqb (bitOr x (bitXor g h)) 0 ≡ cond (eqb x 0) (eqb g h) false = or-test x (bitXor g h) ∙ ap (λ (z : Bool). cond (eqb x 0) z false) (xor-test g h) in
+    let bit : eqb (bitOr x (bitXor g h)) 0 ≡ cond (eqb x 0) (eqb g h) false = or-test x (bitXor g h)
+    ∙ ap (λ (z : Bool). cond (eqb x 0) z false) (xor-test g h) in
     let sum : same (part a from k ++ (g ∷ [])) (part b from k ++ (h ∷ [])) ≡ cond (same (part a from k) (part b from k)) (eqb g h) false =
-    same-append (part a from k) (g ∷ []) (part b from k) (h ∷ []) la ∙ ap (λ (z : Bool). cond (same (part a from k) (part b from k)) z false) (itself (eqb g h)) in
+    same-append (part a from k) (g ∷ []) (part b from k) (h ∷ []) la
+    ∙ ap (λ (z : Bool). cond (same (part a from k) (part b from k)) z false) (itself (eqb g h)) in
     cc (part-suc a from k 0 (omega arith), part-suc b from k 0 (omega arith))
 
 -- one byte more of a range tested for zeros

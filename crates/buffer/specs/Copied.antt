@@ -20,7 +20,8 @@ pub copied-start : (d all : Bytes) (to : ℕ) → to + length all ≤ length d �
 copied-start d all to h = record { same = refl; room = h; long = refl; ends = refl }
 
 -- the next piece x
-pub copied-next : (d₀ all d d₁ x rest y : Bytes) (to e f : ℕ) → rest ≡ x ++ y → f ≡ e + length x → d₁ ≡ put d e x → Copied d₀ to all d e rest → Copied d₀ to all d₁ f y
+pub copied-next : (d₀ all d d₁ x rest y : Bytes) (to e f : ℕ) → rest ≡ x ++ y → f ≡ e + length x → d₁ ≡ put d e x → Copied d₀ to all d e rest
+    → Copied d₀ to all d₁ f y
 copied-next d₀ all d d₁ x rest y to e f q p u w =
     let r = w .room in
     let l = w .long in

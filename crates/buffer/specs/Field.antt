@@ -75,7 +75,8 @@ unfolding readLe le
 read-here zero n Y h = omega arith
 read-here (suc w) n Y h =
     let p = pow-suc 256 w in
-    let e : readLe w (n % 256 ∷ (le w (n / 256) ++ Y)) 1 ≡ n / 256 = read-past w (n % 256 ∷ []) (le w (n / 256) ++ Y) 1 0 refl ∙ read-here w (n / 256) Y (omega arith) in
+    let e : readLe w (n % 256 ∷ (le w (n / 256) ++ Y)) 1 ≡ n / 256 = read-past w (n % 256 ∷ []) (le w (n / 256) ++ Y) 1 0 refl
+    ∙ read-here w (n / 256) Y (omega arith) in
     omega arith
 
 -- a number's bytes spell it behind any front and before any rest

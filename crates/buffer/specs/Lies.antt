@@ -18,7 +18,8 @@ pub record Lies (s : Bytes) (at : ℕ) (bs : Bytes) : Type 0 where
 
 -- the first of two
 pub lies-left : {s : Bytes} {at : ℕ} (xs ys : Bytes) → Lies s at (xs ++ ys) → Lies s at xs
-lies-left xs ys w = record { front = w .front; back = ys ++ w .back; is = w .is ∙ ap (λ (l : Bytes). w .front ++ l) (append-assoc xs ys (w .back)); place = w .place }
+lies-left xs ys w =
+    record { front = w .front; back = ys ++ w .back; is = w .is ∙ ap (λ (l : Bytes). w .front ++ l) (append-assoc xs ys (w .back)); place = w .place }
 
 -- the second of two
 pub lies-right : {s : Bytes} {at : ℕ} (xs ys : Bytes) (e : ℕ) → e ≡ at + length xs → Lies s at (xs ++ ys) → Lies s e ys

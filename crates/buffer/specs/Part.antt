@@ -43,7 +43,8 @@ module _ {ℓ} {A : Type ℓ} where
   unfolding part
   part-part s at n i m h =
       let e : i + (n - i) ≡ n = omega arith in
-      let a : drop i (take n (drop at s)) ≡ take (n - i) (drop i (drop at s)) = ap (λ (k : ℕ). drop i (take k (drop at s))) (sym e) ∙ drop-take i (n - i) (drop at s) in
+      let a : drop i (take n (drop at s)) ≡ take (n - i) (drop i (drop at s)) = ap (λ (k : ℕ). drop i (take k (drop at s))) (sym e)
+      ∙ drop-take i (n - i) (drop at s) in
       cc (take-take m (n - i) (drop i (drop at s)) (omega arith), drop-drop i at s)
 
   -- two parts side by side
@@ -154,7 +155,8 @@ module _ {ℓ} {A : Type ℓ} where
   unfolding put
   part-put-before s bs at i n h l =
       let t : length (take at s) ≡ at = length-take-le at s l in
-      let a : part (take at s ++ (bs ++ drop (at + length bs) s)) i n ≡ part (take at s) i n = part-within (take at s) (bs ++ drop (at + length bs) s) i n (omega arith) in
+      let a : part (take at s ++ (bs ++ drop (at + length bs) s)) i n
+      ≡ part (take at s) i n = part-within (take at s) (bs ++ drop (at + length bs) s) i n (omega arith) in
       cc (part-within (take at s) (drop at s) i n (omega arith), take-append-drop at s)
 
   -- what follows stays

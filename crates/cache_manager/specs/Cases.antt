@@ -29,7 +29,8 @@ use Rattle.book.specs.Book.{Counts, plus, book-defs}
 use Rattle.book.specs.Calls.{ons, lookups, call-defs}
 use Rattle.arena.specs.Layout as layout
 use Rattle.arena.specs.Layout.{zeros, head, itemHead, encEntry, encEntries, encItem, encItems, encShard, encShards}
-use Rattle.arena.specs.Decode.{readEntry, readEntries, readItem, readItems, readShard, readArena, every, distinctKeys, distinctCommands, mayStore, itemFits, itemFine, rowFine, rowsFine, isImage, decode}
+use Rattle.arena.specs.Decode.{readEntry, readEntries, readItem, readItems, readShard, readArena, every, distinctKeys, distinctCommands, mayStore}
+use Rattle.arena.specs.Decode.{itemFits, itemFine, rowFine, rowsFine, isImage, decode}
 use Rattle.arena.specs.Sequence.{Held, lend}
 use Rattle.arena.specs.Sizes.{setupOf}
 use Rattle.planning.specs.Ask.{ask-defs}
@@ -163,7 +164,13 @@ wrong-is-2 o = refl
 
 -- both buffers fit to the byte; a miss is counted
 pub exact-fit : plans (recordOf 0 1 (getA 0 0)) 33 41 freshOne
-    ≡ record { returned = wrote 33 41 (record { offset = 0; count = 2 }); plan = planHead 0 1 ++ missingA 105; send = sentA; held = having (zeros 80) (plus 0 1 0) }
+    ≡ record {
+      returned = wrote 33 41 (record { offset = 0; count = 2 });
+      plan = planHead 0 1
+          ++ missingA 105;
+      send = sentA;
+      held = having (zeros 80) (plus 0 1 0);
+    }
 unfolding call-case-defs
 exact-fit = refl
 
@@ -216,7 +223,9 @@ pub opt-in-transaction : planCall 1 1 100 5 3 (recordOf 1 2 (getA 6 0 ++ getA 2 
     ≡ record {
       returned = wrote 53 128 (record { offset = 5; count = 1 });
       plan = planHead 1 2 ++ (missingA 105 ++ (le32 0 ++ (le32 0 ++ (le32 0 ++ le64 0))));
-      send = ascii "*1\r\n$5\r\nMULTI\r\n*3\r\n$6\r\nCLIENT\r\n$7\r\nCACHING\r\n$3\r\nYES\r\n" ++ (sentA ++ ascii "*2\r\n$3\r\nGET\r\n$1\r\na\r\n*1\r\n$4\r\nEXEC\r\n");
+      send =
+          ascii "*1\r\n$5\r\nMULTI\r\n*3\r\n$6\r\nCLIENT\r\n$7\r\nCACHING\r\n$3\r\nYES\r\n"
+          ++ (sentA ++ ascii "*2\r\n$3\r\nGET\r\n$1\r\na\r\n*1\r\n$4\r\nEXEC\r\n");
       held = having (zeros 80) (plus 0 1 0);
     }
 unfolding call-case-defs

@@ -72,7 +72,8 @@ pub record Passed (g : Settings) (t e : ℕ) (b : Bool) (cs : List Command) (bk 
 
 -- there is room for the heads
 module _ (g : Settings) (t e : ℕ) (b : Bool) (cs : List Command) (a d f : Bytes)
-    (room : (rows : ℕ → Row) → Lent g a rows → (length (planBytes (setupNow g) rows t e g b cs) ≤ length d) × (length (sendBytes (setupNow g) rows t e g b cs) ≤ length f))
+    (room : (rows : ℕ → Row) → Lent g a rows → (length (planBytes (setupNow g) rows t e g b cs) ≤ length d)
+    × (length (sendBytes (setupNow g) rows t e g b cs) ≤ length f))
     (v : Arena g a) where
   pub head-fits : 8 ≤ length d
   unfolding planBytes
@@ -97,7 +98,8 @@ numbers false n m x n′ m′ x′ p q r = rw (p, q, r)
 
 module _ (g : Settings) (t e : ℕ) (b : Bool) (cs : List Command) (a d f d₁ f₁ : Bytes) (to from n : ℕ) (counts : Statistics)
     (k : length cs ≡ n) (i : (to ≡ 8) × (d₁ ≡ put d 0 (planHead b n))) (j : Wrote f 0 (startBytes b) f₁ from)
-    (room : (rows : ℕ → Row) → Lent g a rows → (length (planBytes (setupNow g) rows t e g b cs) ≤ length d) × (length (sendBytes (setupNow g) rows t e g b cs) ≤ length f)) where
+    (room : (rows : ℕ → Row) → Lent g a rows → (length (planBytes (setupNow g) rows t e g b cs) ≤ length d)
+    × (length (sendBytes (setupNow g) rows t e g b cs) ≤ length f)) where
   -- the heads are written
   head-wrote : Wrote d 0 (planHead b (length cs)) d₁ to
   head-wrote = wrote-is d d₁ _ (planHead b n) 0 to (ap (planHead b) k) (let l = length-plan-head b n in i .0 ∙ omega arith, i .1)
@@ -129,7 +131,8 @@ module _ (g : Settings) (t e : ℕ) (b : Bool) (cs : List Command) (a d f d₁ f
         room-second f₁ f₂ _ (allSent (setupNow g) R t e g cs) (endBytes b) from (y .from) refl (sent-room R (v .lent)) (w .send R (v .lent))
 
     -- all is written
-    pub passed : (f₃ : Bytes) (end : ℕ) (r : CachedPipeline) → Wrote f₂ (y .from) (endBytes b) f₃ end → r .answer ≡ Done (writtenOf b (y .to) end (y .sent)) → r .counts ≡ y .counts
+    pub passed : (f₃ : Bytes) (end : ℕ) (r : CachedPipeline) → Wrote f₂ (y .from) (endBytes b) f₃ end
+        → r .answer ≡ Done (writtenOf b (y .to) end (y .sent)) → r .counts ≡ y .counts
         → (bk : Book) → Keeps g a counts bk → Passed g t e b cs bk d f a′ d₂ f₃ r
     unfolding planBytes sendBytes
     passed f₃ end r z q c bk o =

@@ -54,7 +54,8 @@ module _ (p : Setup) (rows : ℕ → Row) (t e : ℕ) (g : Settings) where
       let rs : List CachingResult = outcomesFor p rows t e g (r .commands) in
       let x = plan-pieces (planOf (transaction r) rs)
       ∙ ap₂ (λ (n : ℕ) (z : Bytes). planHead (transaction r) n ++ z) (outcomes-length (r .commands)) (nodes-are p rows t e g (r .commands)) in
-      let y = wrapped-bytes (transaction r) _ ∙ ap (λ (z : Bytes). startBytes (transaction r) ++ (z ++ endBytes (transaction r))) (sent-are p rows t e g (r .commands)) in
+      let y = wrapped-bytes (transaction r) _ ∙ ap (λ (z : Bytes). startBytes (transaction r) ++ (z ++ endBytes (transaction r)))
+      (sent-are p rows t e g (r .commands)) in
       let z = ap (responses (transaction r)) (count-is p rows t e g (r .commands)) in
       λ i. record { plan = x i; send = y i; counts = z i }
 

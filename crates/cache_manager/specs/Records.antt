@@ -78,22 +78,27 @@ module _ (t e : ℕ) (s d f a : Bytes) (g : Settings) (k : Commands) (counts : S
       send-same : sendNow t e s d f (holding a (countsOf counts) next) g rows (recordAt s) ≡ sendBytes (setupNow g) rows t e g b (commandsOf s k)
       send-same = ap₂ (λ (x : Bool) (y : List Command). sendBytes (setupNow g) rows t e g x y) (sym p) commands-are
 
-      test-same : (ltb (length d) (length (planNow t e s d f (holding a (countsOf counts) next) g rows (recordAt s))) || ltb (length f) (length (sendNow t e s d f (holding a (countsOf counts) next) g rows (recordAt s))))
-          ≡ (ltb (length d) (length (planBytes (setupNow g) rows t e g b (commandsOf s k))) || ltb (length f) (length (sendBytes (setupNow g) rows t e g b (commandsOf s k))))
+      test-same : (ltb (length d) (length (planNow t e s d f (holding a (countsOf counts) next) g rows (recordAt s))) || ltb (length f)
+          (length (sendNow t e s d f (holding a (countsOf counts) next) g rows (recordAt s))))
+          ≡ (ltb (length d) (length (planBytes (setupNow g) rows t e g b (commandsOf s k))) || ltb (length f)
+          (length (sendBytes (setupNow g) rows t e g b (commandsOf s k))))
       test-same = ap₂ (λ (x : Bytes) (y : Bytes). ltb (length d) (length x) || ltb (length f) (length y)) plan-same send-same
 
       late-same : anyLate g t (recordAt s .commands) ≡ false
       late-same = ap (anyLate g t) commands-are ∙ l
 
       -- cause 5
-      pub record-short : (ltb (length d) (length (planBytes (setupNow g) rows t e g b (commandsOf s k))) || ltb (length f) (length (sendBytes (setupNow g) rows t e g b (commandsOf s k)))) ≡ true
-          → (r .answer ≡ Refused shortBuffer) × (r .counts ≡ counts) → Leaves (recorded t e s d f (holding a (countsOf counts) next) g rows (recordAt s)) a d f r
+      pub record-short : (ltb (length d) (length (planBytes (setupNow g) rows t e g b (commandsOf s k))) || ltb (length f)
+          (length (sendBytes (setupNow g) rows t e g b (commandsOf s k)))) ≡ true
+          → (r .answer ≡ Refused shortBuffer) × (r .counts ≡ counts)
+          → Leaves (recorded t e s d f (holding a (countsOf counts) next) g rows (recordAt s)) a d f r
       record-short x z =
           leaves-all t e s d f a counts next _ (refusedAs shortBuffer) r
           (short-refused t e s d f (holding a (countsOf counts) next) g rows (recordAt s) late-same (test-same ∙ x)) (ap returnedOf (z .0)) (z .1)
 
       -- all is written
-      pub record-done : (ltb (length d) (length (planBytes (setupNow g) rows t e g b (commandsOf s k))) || ltb (length f) (length (sendBytes (setupNow g) rows t e g b (commandsOf s k)))) ≡ false
+      pub record-done : (ltb (length d) (length (planBytes (setupNow g) rows t e g b (commandsOf s k))) || ltb (length f)
+          (length (sendBytes (setupNow g) rows t e g b (commandsOf s k)))) ≡ false
           → (a′ d′ f′ : Bytes) → length a′ ≡ length a → Passed g t e b (commandsOf s k) (bookOf rows (holding a (countsOf counts) next)) d f a′ d′ f′ r
           → Leaves (recorded t e s d f (holding a (countsOf counts) next) g rows (recordAt s)) a′ d′ f′ r
       unfolding lend
@@ -103,7 +108,10 @@ module _ (t e : ℕ) (s d f a : Bytes) (g : Settings) (k : Commands) (counts : S
           rw (all-written t e s d f (holding a (countsOf counts) next) g rows (recordAt s) late-same (test-same ∙ x))
           (record {
             returned = y .returned;
-            arena = sym (y .keeps .rows .image .bytes) ∙ ap (λ (m : ℕ). encode (setupNow g) m (afterAll (setupNow g) (ons (lookups t e (wanted g t (recordAt s .commands)))) (bookOf rows (holding a (countsOf counts) next)) .rows)) n;
+            arena =
+                sym (y .keeps .rows .image .bytes) ∙ ap
+                (λ (m : ℕ). encode (setupNow g) m
+                (afterAll (setupNow g) (ons (lookups t e (wanted g t (recordAt s .commands)))) (bookOf rows (holding a (countsOf counts) next)) .rows)) n;
             counts = y .keeps .counts;
             plan = y .plan;
             send = y .send;
@@ -135,7 +143,8 @@ module _ (t e : ℕ) (s d f : Bytes) (h : Held) (g : Settings) (rows : ℕ → R
 -- ---- causes 1 and 9
 
 module _ (size mode ttl t e : ℕ) (s d f : Bytes) (h : Held) where
-  pub call-admitted : (g : Settings) (rows : ℕ → Row) → checked size mode ttl (length (h .arena)) ≡ Passes g → decode isValue (setupNow g) (h .arena) ≡ some rows
+  pub call-admitted : (g : Settings) (rows : ℕ → Row) → checked size mode ttl (length (h .arena)) ≡ Passes g
+      → decode isValue (setupNow g) (h .arena) ≡ some rows
       → planCall size mode ttl t e s d f h ≡ admittedTo t e s d f h g rows
   unfolding planCall
   call-admitted g rows p q = is-entered (λ n. refusal t e s d f h (refusedAs n)) (admittedTo t e s d f h) _ (h .arena) g rows p q

@@ -111,7 +111,8 @@ module _ (p : Setup) (rows : ℕ → Row) (t e : ℕ) where
   -- of one of several
   pub part-place : (s a : Bytes) (v : Several) (k : Range) (r : Looked) → SeveralIn s v
       → Told a (effectIn p (lookup (rangeBytes s k) (keyBytes s (Named (v .json) k (v .path))) t e) rows) r
-      → PlaceTold a (plan.partKey (severalName (v .json)) (pathIn s v) (rangeBytes s k)) (placeOn p rows t e (plan.partKey (severalName (v .json)) (pathIn s v) (rangeBytes s k))) r
+      → PlaceTold a (plan.partKey (severalName (v .json)) (pathIn s v) (rangeBytes s k))
+      (placeOn p rows t e (plan.partKey (severalName (v .json)) (pathIn s v) (rangeBytes s k))) r
   unfolding plan.partKey
   part-place s a v k r i w = told-place a (plan.partKey (severalName (v .json)) (pathIn s v) (rangeBytes s k)) (rangeBytes s k) _ r refl (part-key s v k i) w
 
@@ -142,7 +143,8 @@ module _ (p : Setup) (rows : ℕ → Row) (t e : ℕ) where
     -- one key, served
     pub single-hit : (c : Command) (k : Range) (x from to : ℕ)
         → PlaceTold a (plan.wholeKey c (rangeBytes s k)) (placeOn p rows t e (plan.wholeKey c (rangeBytes s k))) (Hit from to)
-        → TellsItem p rows t e s a c (plan.singleItem (placeOn p rows t e (plan.wholeKey c (rangeBytes s k))) x) (Cached (Value (record { start = from; end = to })))
+        → TellsItem p rows t e s a c (plan.singleItem (placeOn p rows t e (plan.wholeKey c (rangeBytes s k))) x)
+        (Cached (Value (record { start = from; end = to })))
     unfolding plan.singleItem
     single-hit c k x from to w = record { is = rw (w .2); inside = (w .0, w .1) }
 

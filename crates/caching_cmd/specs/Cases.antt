@@ -21,7 +21,8 @@ use Rattle.book.specs.Book.{plus, book-defs}
 use Rattle.book.specs.Calls.{ons, stores, refusals, call-defs}
 use Rattle.arena.specs.Layout as layout
 use Rattle.arena.specs.Layout.{zeros, head, itemHead, encEntry, encEntries, encItem, encItems, encShard, encShards}
-use Rattle.arena.specs.Decode.{readEntry, readEntries, readItem, readItems, readShard, readArena, every, distinctKeys, distinctCommands, mayStore, itemFits, itemFine, rowFine, rowsFine, isImage, decode}
+use Rattle.arena.specs.Decode.{readEntry, readEntries, readItem, readItems, readShard, readArena, every, distinctKeys, distinctCommands, mayStore}
+use Rattle.arena.specs.Decode.{itemFits, itemFine, rowFine, rowsFine, isImage, decode}
 use Rattle.arena.specs.Sequence.{Held, lend}
 use Rattle.arena.specs.Sizes.{setupOf}
 use Rattle.planning.specs.Plan.{plan-defs}
@@ -134,21 +135,25 @@ holdingK =
     }
 
 -- stored, with the unwritten end of the buffer unchanged
-stored-whole : resolved oneMissing (ascii "*2\r\n:1\r\n$1\r\nu\r\n") 13 (freshIn 80) ≡ returning (Answered 11 0) (ascii "*1\r\n$1\r\nu\r\n" ++ (9 ∷ 9 ∷ [])) holdingK
+stored-whole : resolved oneMissing (ascii "*2\r\n:1\r\n$1\r\nu\r\n") 13 (freshIn 80)
+    ≡ returning (Answered 11 0) (ascii "*1\r\n$1\r\nu\r\n" ++ (9 ∷ 9 ∷ [])) holdingK
 unfolding case-defs
 stored-whole = refl
 
 -- 7 at the second command, which finds its PTTL and no reply: the first one's store remains, the buffer is zeroed
-seven-leaves-store : resolved (planHead 0 2 ++ (missing "k" ++ missing "m")) (ascii "*3\r\n:1\r\n$1\r\nu\r\n:1\r\n") 5 (freshIn 80) ≡ returning (Refused 7) (zeros 5) holdingK
+seven-leaves-store : resolved (planHead 0 2 ++ (missing "k" ++ missing "m")) (ascii "*3\r\n:1\r\n$1\r\nu\r\n:1\r\n") 5 (freshIn 80)
+    ≡ returning (Refused 7) (zeros 5) holdingK
 unfolding case-defs
 seven-leaves-store = refl
 
 -- opt-in: one reply is dropped first, and must be there
-opt-in-drops : resolveCall 1 1 0 oneMissing (ascii "*3\r\n+OK\r\n:1\r\n$1\r\nu\r\n") 10 3 (replicate 11 9) (freshIn 80) ≡ returning (Answered 11 0) (ascii "*1\r\n$1\r\nu\r\n") holdingK
+opt-in-drops : resolveCall 1 1 0 oneMissing (ascii "*3\r\n+OK\r\n:1\r\n$1\r\nu\r\n") 10 3 (replicate 11 9) (freshIn 80)
+    ≡ returning (Answered 11 0) (ascii "*1\r\n$1\r\nu\r\n") holdingK
 unfolding case-defs
 opt-in-drops = refl
 
-opt-in-absent : resolveCall 1 1 0 oneMissing (ascii "*2\r\n:1\r\n$1\r\nu\r\n") 10 3 (replicate 11 9) (freshIn 80) ≡ returning (Refused 7) (zeros 11) (freshIn 80)
+opt-in-absent : resolveCall 1 1 0 oneMissing (ascii "*2\r\n:1\r\n$1\r\nu\r\n") 10 3 (replicate 11 9) (freshIn 80)
+    ≡ returning (Refused 7) (zeros 11) (freshIn 80)
 unfolding case-defs
 opt-in-absent = refl
 

@@ -51,7 +51,8 @@ room-plain false n l z h = omega arith
 pub room-one : (transaction : Bool) (n l : ℕ) → transaction ≡ true → length (resultHead transaction n) ≤ l → 0 + length (head 42 1) ≤ l
 room-one transaction n l z h = let j = length-both transaction n z in let k = one-length in omega arith
 
-pub room-two : (transaction : Bool) (n l m at : ℕ) → transaction ≡ true → length (resultHead transaction n) ≤ l → m ≡ l → at ≡ 0 + length (head 42 1) → at + length (head 42 n) ≤ m
+pub room-two : (transaction : Bool) (n l m at : ℕ) → transaction ≡ true → length (resultHead transaction n) ≤ l → m ≡ l → at ≡ 0 + length (head 42 1)
+    → at + length (head 42 n) ≤ m
 room-two transaction n l m at z h q e = let j = length-both transaction n z in let k = one-length in omega arith
 
 pub head-wrapped : (transaction : Bool) (n at r : ℕ) (s t u : Bytes) → transaction ≡ true → length (resultHead transaction n) ≤ length s

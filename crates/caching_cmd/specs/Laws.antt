@@ -88,7 +88,8 @@ starts plan list first rs h t l =
     }
 
 -- an answer for each command
-pub many-answers : (plan : Bytes) → PlanRead plan → (mode : CacheMode) (clock : ℕ) (v : Value) → Many (resolve (planRead (readPlan plan)) mode clock v) (readPlan plan .commands)
+pub many-answers : (plan : Bytes) → PlanRead plan → (mode : CacheMode) (clock : ℕ) (v : Value)
+    → Many (resolve (planRead (readPlan plan)) mode clock v) (readPlan plan .commands)
 many-answers plan h mode clock v = go (resolve (planRead (readPlan plan)) mode clock v) refl
   where
     go : (x : Resolved) → resolve (planRead (readPlan plan)) mode clock v ≡ x → Many x (readPlan plan .commands)
@@ -135,7 +136,8 @@ module _ (s : Bytes) (v : Value) (m : Means s v) where
       go (some vs) h = absurd h
 
   -- an array, outside a transaction
-  pub find-plain : (transaction : Bool) (first : Cursor) → transaction ≡ false → ArrayIs s (Of first) → FoundIs s (At 0 (length s) first) (repliesOf transaction v)
+  pub find-plain : (transaction : Bool) (first : Cursor) → transaction ≡ false → ArrayIs s (Of first)
+      → FoundIs s (At 0 (length s) first) (repliesOf transaction v)
   find-plain true first e f = absurd (let z : _≡_ {A = ℕ} 0 1 = cc in omega arith)
   find-plain false first e f = go (arrayOf v) (f v m)
     where
@@ -146,7 +148,8 @@ module _ (s : Bytes) (v : Value) (m : Means s v) where
           (omega arith, omega arith, rw k (subst (λ (t : Bytes). Stands t first vs) (sym (part-all s)) h))
 
   -- in a transaction: not one element
-  pub find-many : (transaction : Bool) (first : Cursor) → transaction ≡ true → ArrayIs s (Of first) → ((first .left ≡ 1) → ⊥) → FoundIs s No (repliesOf transaction v)
+  pub find-many : (transaction : Bool) (first : Cursor) → transaction ≡ true → ArrayIs s (Of first) → ((first .left ≡ 1) → ⊥)
+      → FoundIs s No (repliesOf transaction v)
   find-many false first e f n = absurd (let z : _≡_ {A = ℕ} 0 1 = cc in omega arith)
   find-many true first e f n = go (arrayOf v) (f v m)
     where
@@ -175,7 +178,8 @@ module _ (s : Bytes) (v : Value) (m : Means s v) where
       go (some (more w none)) h = inner (arrayOf w) (g w (element-means s first w none h))
       go (some (more w (more x vs))) h = tt
 
-  pub find-inner : (transaction : Bool) (first inside : Cursor) → transaction ≡ true → ArrayIs s (Of first) → first .left ≡ 1 → ArrayIs (firstPart first) (Of inside)
+  pub find-inner : (transaction : Bool) (first inside : Cursor) → transaction ≡ true → ArrayIs s (Of first) → first .left ≡ 1
+      → ArrayIs (firstPart first) (Of inside)
       → FoundIs s (At (first .at) (first .end) inside) (repliesOf transaction v)
   find-inner false first inside e f n g = absurd (let z : _≡_ {A = ℕ} 0 1 = cc in omega arith)
   find-inner true first inside e f n g = go (arrayOf v) (f v m)
@@ -193,7 +197,8 @@ module _ (s : Bytes) (v : Value) (m : Means s v) where
 -- ---- what was found, for the functions that go on
 
 -- the same of an answer and a flag that are equal
-pub found-as : (s : Bytes) (transaction flag : Bool) (r q : Found) (v : Value) → transaction ≡ flag → r ≡ q → FoundIs s r (repliesOf transaction v) → FoundIs s q (repliesOf flag v)
+pub found-as : (s : Bytes) (transaction flag : Bool) (r q : Found) (v : Value) → transaction ≡ flag → r ≡ q → FoundIs s r (repliesOf transaction v)
+    → FoundIs s q (repliesOf flag v)
 found-as s transaction flag r q v a e h = subst (λ (t : Bool). FoundIs s q (repliesOf t v)) a (subst (λ (k : Found). FoundIs s k (repliesOf transaction v)) e h)
 
 -- the list stands in the replies, and is no longer than they are
@@ -215,7 +220,8 @@ found-goes s plan transaction r from to first ok a e f =
     goes s from to first (repliesOf (readPlan plan .transaction) (resp.decode s))
     (found-as s transaction (readPlan plan .transaction) r (At from to first) (resp.decode s) a e (f (resp.decode s) (value-means s ok)))
 
-pub goes-listed : (s : Bytes) (from to : ℕ) (first : Cursor) (o : Option Values) → isValue s ≡ true → Goes s from to first o → Listed (part s from (to - from)) first
+pub goes-listed : (s : Bytes) (from to : ℕ) (first : Cursor) (o : Option Values) → isValue s ≡ true → Goes s from to first o
+    → Listed (part s from (to - from)) first
 goes-listed s from to first o e h =
     let k : length (part s from (to - from)) ≡ to - from = length-part s from (to - from) (omega (arith, h .order, h .within)) in
     record { rs = h .rs; stands = h .stands; small = let j = value-small s e in omega (arith, h .within) }
@@ -243,7 +249,8 @@ module _ (g : Settings) (rows : ℕ → Row) (plan replies : Bytes) (clock epoch
   fine-call e f = rw (e, f)
 
   -- a resolving judged on the book is the call on the arena
-  pub judged-comes : (old new after : Bytes) (r : ResolveAnswer) → h .arena ≡ old → Lent g old rows → length new ≡ length old → isPlan plan ≡ true → isValue replies ≡ true
+  pub judged-comes : (old new after : Bytes) (r : ResolveAnswer) → h .arena ≡ old → Lent g old rows → length new ≡ length old → isPlan plan ≡ true
+      → isValue replies ≡ true
       → Judged g (readPlan plan .transaction) epoch (resolve (planRead (readPlan plan)) (g .mode) clock (resp.decode replies)) old new buffer after r
       → Comes (planned g rows (decodePlan plan) replies clock epoch buffer h) r new after
   unfolding resolvedOn lend
@@ -251,8 +258,14 @@ module _ (g : Settings) (rows : ℕ → Row) (plan replies : Bytes) (clock epoch
       let z = j (bookOf rows h) l in
       let x : Resolved = resolve (planRead (readPlan plan)) (g .mode) clock (resp.decode replies) in
       let left : ℕ → Row = afterCall (setupNow g) (toldTo (readPlan plan .transaction) epoch x (length buffer)) (bookOf rows h) .rows in
-      rw (fine-call e f)
-      (ap causeOf (z .0), ap writtenOf (z .0), ap storesOf (z .0), sym (z .1 .image .bytes) ∙ ap (λ (i : ℕ). layout.encode (setupNow g) i left) (n ∙ ap length (sym a)), z .2)
+      rw (fine-call e f) (
+        ap causeOf (z .0),
+        ap writtenOf (z .0),
+        ap storesOf (z .0),
+        sym (z .1 .image .bytes)
+            ∙ ap (λ (i : ℕ). layout.encode (setupNow g) i left) (n ∙ ap length (sym a)),
+        z .2,
+      )
 
 -- ---- causes 1 and 9
 

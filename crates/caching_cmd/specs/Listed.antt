@@ -48,16 +48,19 @@ pub room-left : (n h k : ℕ) (room : Room) → room ≡ spent (wholeRoom n) h �
 room-left n h k room e q = e ∙ ap (spent (wholeRoom n)) q
 
 -- where all fits, the answer pass has room
-pub fine-all : (plan list : Bytes) (c : Walk) (mode : CacheMode) (clock n h : ℕ) (room : Room) (d : Dry) → room ≡ spent (wholeRoom n) h → DryIs plan list c mode clock room d → d ≡ Fits
+pub fine-all : (plan list : Bytes) (c : Walk) (mode : CacheMode) (clock n h : ℕ) (room : Room) (d : Dry) → room ≡ spent (wholeRoom n) h
+    → DryIs plan list c mode clock room d → d ≡ Fits
     → Fine plan list c mode clock h n
-fine-all plan list c mode clock n h room d e f q ns es rs t = fine-dry n h (walk mode clock ns es rs) (sym q ∙ f ns es rs t ∙ ap (λ (r : Room). dryOf r (walk mode clock ns es rs)) e)
+fine-all plan list c mode clock n h room d e f q ns es rs t =
+    fine-dry n h (walk mode clock ns es rs) (sym q ∙ f ns es rs t ∙ ap (λ (r : Room). dryOf r (walk mode clock ns es rs)) e)
 
 -- and so has the head
 pub head-fits : (plan list : Bytes) (c : Walk) (mode : CacheMode) (clock n h : ℕ) → Begins plan list c → Fine plan list c mode clock h n → h ≤ n
 head-fits plan list c mode clock n h b f = fine-head n h (walk mode clock (b .ns) (b .es) (b .rs)) (f (b .ns) (b .es) (b .rs) (b .starts))
 
 -- the same of numbers that are equal
-pub fine-same : (plan list : Bytes) (c : Walk) (mode : CacheMode) (clock h n i m : ℕ) → i ≡ h → m ≡ n → Fine plan list c mode clock h n → Fine plan list c mode clock i m
+pub fine-same : (plan list : Bytes) (c : Walk) (mode : CacheMode) (clock h n i m : ℕ) → i ≡ h → m ≡ n → Fine plan list c mode clock h n
+    → Fine plan list c mode clock i m
 fine-same plan list c mode clock h n i m a b f = rw (a, b) f
 
 -- what is not to be kept is not stored; what is, is
@@ -76,7 +79,8 @@ pub stored-same : (g : Settings) (epoch : ℕ) (plan list : Bytes) (c : Walk) (c
     → StoredFor g epoch plan list c clock x old new n → StoredFor g epoch plan list c clock d old new n
 stored-same g epoch plan list c clock old new n d x e h = subst (λ (y : Dry). StoredFor g epoch plan list c clock y old new n) (sym e) h
 
-module _ (g : Settings) (epoch : ℕ) (plan list : Bytes) (first : Cursor) (c : Walk) (clock : ℕ) (buffer : Bytes) (ok : isPlan plan ≡ true) (at : c ≡ startAt first)
+module _ (g : Settings) (epoch : ℕ) (plan list : Bytes) (first : Cursor) (c : Walk) (clock : ℕ) (buffer : Bytes) (ok : isPlan plan ≡ true)
+    (at : c ≡ startAt first)
     (small : length list ≤ maxBytes) (v : Value) (rs : Values) (e : repliesOf (readPlan plan .transaction) v ≡ some rs) (t : Stands list first rs) where
   -- what becomes of the plan
   abbrev pub result : Resolved
@@ -125,7 +129,8 @@ module _ (g : Settings) (epoch : ℕ) (plan list : Bytes) (first : Cursor) (c : 
           subst (λ (m : ℕ). AllWritten g plan list c clock (readPlan plan .transaction) m n buffer after r) b i in
           let z = j (readPlan plan .nodes) none rs here in
           rw (z .0)
-          (settle-fits g (readPlan plan .transaction) epoch old buffer result (walk (g .mode) clock (readPlan plan .nodes) none rs) (readPlan plan .commands) new after n
+          (settle-fits g (readPlan plan .transaction) epoch old buffer result (walk (g .mode) clock (readPlan plan .nodes) none rs)
+          (readPlan plan .commands) new after n
           (many-answers plan read (g .mode) clock v) same (sym w ∙ dry-is) (stored-as Fits w (readPlan plan .nodes) none rs here) (z .1))
 
 -- where no list is found

@@ -49,16 +49,19 @@ dryFor transaction (cause7 ss) n = Wrong
 dryFor transaction (answered vs ss) n = dryIf (leb (length (resultBytes transaction vs)) n)
 
 -- the length of the result
-result-length : (transaction : Bool) (vs : Values) (k : ℕ) → count vs ≡ k → length (resultHead transaction k) + length (encs vs []) ≡ length (resultBytes transaction vs)
+result-length : (transaction : Bool) (vs : Values) (k : ℕ) → count vs ≡ k
+    → length (resultHead transaction k) + length (encs vs []) ≡ length (resultBytes transaction vs)
 result-length transaction vs k e =
-    sym (ap length (result-pieces transaction vs ∙ ap (λ (i : ℕ). resultHead transaction i ++ encs vs []) e) ∙ length-append (resultHead transaction k) (encs vs []))
+    sym (ap length (result-pieces transaction vs ∙ ap (λ (i : ℕ). resultHead transaction i ++ encs vs []) e)
+    ∙ length-append (resultHead transaction k) (encs vs []))
 
 -- as many answers as the plan has commands
 abbrev pub Many : Resolved → ℕ → Type 0
 Many (cause7 ss) k = Unit {0}
 Many (answered vs ss) k = count vs ≡ k
 
-pub dry-says : (transaction : Bool) (v : Resolved) (n k : ℕ) → Many v k → dryOf (spent (wholeRoom n) (length (resultHead transaction k))) (walkedOf v) ≡ dryFor transaction v n
+pub dry-says : (transaction : Bool) (v : Resolved) (n k : ℕ) → Many v k
+    → dryOf (spent (wholeRoom n) (length (resultHead transaction k))) (walkedOf v) ≡ dryFor transaction v n
 unfolding dryOf dryFor
 dry-says transaction (cause7 ss) n k m = refl
 dry-says transaction (answered vs ss) n k m =
@@ -95,7 +98,8 @@ module _ (g : Settings) (transaction : Bool) (epoch : ℕ) (old buffer : Bytes) 
   judged-short vs ss e bk l = rw e (refl, l, refl)
 
   -- neither
-  judged-fits : (vs : Values) (ss : List Storing) (new after : Bytes) (n : ℕ) → leb (length (resultBytes transaction vs)) (length buffer) ≡ true → Stores g epoch ss old new n
+  judged-fits : (vs : Values) (ss : List Storing) (new after : Bytes) (n : ℕ) → leb (length (resultBytes transaction vs)) (length buffer) ≡ true
+      → Stores g epoch ss old new n
       → after ≡ put buffer 0 (resultBytes transaction vs)
       → Judged g transaction epoch (answered vs ss) old new buffer after (Answered (length (resultBytes transaction vs)) n)
   unfolding answerOf toldTo fits bufferAfter refusedOf call-defs

@@ -94,7 +94,8 @@ module _ (g : Settings) (plan replies : Bytes) (clock epoch : ℕ) (buffer : Byt
 
 -- ---- the theorems
 
-module _ (size mode ttl : ℕ) (plan replies : Bytes) (clock epoch : ℕ) (buffer : Bytes) (h : Held) (g : Settings) (e : checked size mode ttl (length (h .arena)) ≡ Fine g) where
+module _ (size mode ttl : ℕ) (plan replies : Bytes) (clock epoch : ℕ) (buffer : Bytes) (h : Held) (g : Settings)
+    (e : checked size mode ttl (length (h .arena)) ≡ Fine g) where
   -- what the caller holds after a resolving is what the book's call leaves
   pub resolve-held : resolveCall size mode ttl plan replies clock epoch buffer h .held
       ≡ callOn isValue (setupNow g) (toldBy (g .mode) (decodePlan plan) replies clock epoch (length buffer)) h .held

@@ -12,7 +12,8 @@ use Rattle.buffer.specs.Same.{Bytes, same-refl}
 use Rattle.config.specs.Wrap.{wrap}
 use Rattle.format.specs.Runs.{All}
 use Rattle.book.specs.Book as book
-use Rattle.book.specs.Book.{Setup, Book, Row, Item, Counts, Event, on, invalidateAll, without, valueFor, current, serve, lookupItem, entriesOf, keyOf, effectOn, effect, count, put, after, fresh}
+use Rattle.book.specs.Book.{Setup, Book, Row, Item, Counts, Event, on, invalidateAll, without, valueFor, current, serve, lookupItem, entriesOf}
+use Rattle.book.specs.Book.{keyOf, effectOn, effect, count, put, after, fresh}
 use Rattle.book.specs.Calls.{run}
 use Rattle.book.specs.Counts.{Counted, fit-adds}
 use Rattle.book.specs.Trace.{SoundBook, sound}

@@ -40,7 +40,8 @@ use Rattle.single_calls.specs.AsCall.{callOf}
 use Rattle.push.specs.Push as pushes
 use Rattle.cache_manager.specs.Pipeline as plannings
 use Rattle.caching_cmd.specs.Call as resolvings
-use Rattle.demand.specs.Call.{RealCall, planning, resolving, push, lookup, store, invalidate, newEpoch, Given, Stepped, causeOf, setupBy, step, setupWith, bookCall, bookCalls, Response, respond}
+use Rattle.demand.specs.Call.{RealCall, planning, resolving, push, lookup, store, invalidate, newEpoch, Given, Stepped, causeOf, setupBy, step}
+use Rattle.demand.specs.Call.{setupWith, bookCall, bookCalls, Response, respond}
 use Rattle.demand.specs.Words.{modeIn, LentArena}
 use Rattle.demand.specs.Demand.{LeftBy, CauseNine}
 use Rattle.demand.specs.Bridge.{is-fine, is-sized}

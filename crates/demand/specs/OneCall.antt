@@ -13,7 +13,8 @@ use Rattle.book.specs.Counts.{Counted}
 use Rattle.arena.specs.Tests.{WellFormed}
 use Rattle.arena.specs.Image.{Sized}
 use Rattle.arena.specs.Sequence.{Held, lend}
-use Rattle.demand.specs.Call.{RealCall, planning, resolving, push, lookup, store, invalidate, newEpoch, Return, Stepped, withArena, withNext, step, setupWith, bookCall, respond, returnFor}
+use Rattle.demand.specs.Call.{RealCall, planning, resolving, push, lookup, store, invalidate, newEpoch, Return, Stepped, withArena, withNext}
+use Rattle.demand.specs.Call.{step, setupWith, bookCall, respond, returnFor}
 use Rattle.demand.specs.Words.{modeIn, LentArena}
 use Rattle.demand.specs.Bridge.{lookup-step, invalidate-step, store-step, epoch-step}
 use Rattle.demand.specs.PushBridge.{push-step}

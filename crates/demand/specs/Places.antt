@@ -12,7 +12,8 @@ use Rattle.book.specs.Book.{Setup, Book, Answer, on, answerTo}
 use Rattle.book.specs.Calls.{Wanted, lookups, ons}
 use Rattle.book.specs.Lookups.{dry}
 use Rattle.planning.specs.Ask.{Ask, nothing, uncacheable, oneKey, severalKeys, ask}
-use Rattle.planning.specs.Outcome.{Place, filled, waiting, item, wholeKey, partKeys, wants, wanted, placeBy, place, places, missing, servedValues, singleItem, multipleItem, outcome, outcomes}
+use Rattle.planning.specs.Outcome.{Place, filled, waiting, item, wholeKey, partKeys, wants, wanted, placeBy, place, places, missing, servedValues}
+use Rattle.planning.specs.Outcome.{singleItem, multipleItem, outcome, outcomes}
 use Rattle.planning.specs.Plan as nodes
 use Rattle.planning.specs.Plan.{Node, endOfSeveral, valueNodes, placeNodes, servedNodes, missingNodes, nodesOf}
 use Rattle.demand.specs.Words.{Got, got, missed, placesIn, lookupsIn}

@@ -37,7 +37,8 @@ use Rattle.single_calls.specs.AsCall as singles
 use Rattle.caching_cmd.specs.Call.{fits, toldTo, refusedOf}
 use Rattle.caching_cmd.specs.Told.{toldBy}
 use Rattle.demand.specs.Call as real
-use Rattle.demand.specs.Call.{RealCall, Reply, setupBy, ifFine, bookCall, bookCalls, respond, returnFor, planReply, recordReply, planningReturn, resultReply, resolvedReply, planLent, resolvingReturn}
+use Rattle.demand.specs.Call.{RealCall, Reply, setupBy, ifFine, bookCall, bookCalls, respond, returnFor, planReply, recordReply}
+use Rattle.demand.specs.Call.{planningReturn, resultReply, resolvedReply, planLent, resolvingReturn}
 use Rattle.demand.specs.Words.{reportedBy, lackingIn}
 use Rattle.demand.specs.Demand.{setup, told, CallIn, returned, bookBefore, response}
 use Rattle.demand.specs.Laws.{setup-proper}

@@ -36,7 +36,8 @@ use Rattle.single_calls.specs.Place.{servedAt}
 use Rattle.cache_manager.specs.Call as told
 use Rattle.caching.specs.Exported.{flagOf, bytesOf}
 use Rattle.demand.specs.Call as real
-use Rattle.demand.specs.Call.{RealCall, Return, Reply, causeOf, ifFine, bookCall, respond, returnFor, planningReturn, resultReply, resolvedReply, planLent, resolvingReturn, singleNumber, singleValue}
+use Rattle.demand.specs.Call.{RealCall, Return, Reply, causeOf, ifFine, bookCall, respond, returnFor, planningReturn, resultReply}
+use Rattle.demand.specs.Call.{resolvedReply, planLent, resolvingReturn, singleNumber, singleValue}
 use Rattle.demand.specs.Words.{gotsOf, lookupsIn}
 use Rattle.demand.specs.Demand.{number, response}
 use Rattle.demand.specs.BookCalls.{of-single, of-push, of-resolving, of-fine}

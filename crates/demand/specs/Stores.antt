@@ -17,7 +17,8 @@ use Rattle.config.specs.Config.{refused}
 use Rattle.format.specs.Runs.{All}
 use Rattle.resp3.specs.Ends.{isValue}
 use Rattle.book.specs.Book as book
-use Rattle.book.specs.Book.{Setup, Book, Row, Item, Counts, Keyed, on, newItem, updated, valueFor, fits, ifFits, keyOf, effectOn, effect, fresh, answerTo, answers, after, afterAll}
+use Rattle.book.specs.Book.{Setup, Book, Row, Item, Counts, Keyed, on, newItem, updated, valueFor, fits, ifFits, keyOf, effectOn, effect, fresh}
+use Rattle.book.specs.Book.{answerTo, answers, after, afterAll}
 use Rattle.book.specs.Calls.{Call, ons, afterCall, replyTo, call-defs}
 use Rattle.book.specs.Counts.{Counted}
 use Rattle.book.specs.Trace.{SoundBook}

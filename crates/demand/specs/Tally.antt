@@ -38,7 +38,8 @@ use Rattle.call_entry.specs.Entered.{noCause}
 use Rattle.single_calls.specs.AsCall.{outcomeNumber}
 use Rattle.cache_manager.specs.Pipeline as pipeline
 use Rattle.demand.specs.Call as real
-use Rattle.demand.specs.Call.{RealCall, Given, Return, Reply, Stepped, causeOf, setupBy, afterSetup, step, heldAfter, returns, setupWith, bookCall, respond, returnFor, planReply, recordReply, planningReturn, singleNumber, pushNumber}
+use Rattle.demand.specs.Call.{RealCall, Given, Return, Reply, Stepped, causeOf, setupBy, afterSetup, step, heldAfter, returns, setupWith}
+use Rattle.demand.specs.Call.{bookCall, respond, returnFor, planReply, recordReply, planningReturn, singleNumber, pushNumber}
 use Rattle.demand.specs.Words.{Got, gotsOf, served, unserved, total}
 use Rattle.demand.specs.Demand.{heldBy, answersTo, bookBy}
 use Rattle.demand.specs.Sequences.{given-front}

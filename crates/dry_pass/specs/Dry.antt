@@ -81,7 +81,8 @@ pub record SizeIs (g : Settings) (rows : ℕ → Row) (t e : ℕ) (c : Command) 
   pub send : z .send ≡ length (sentFor (setupNow g) rows t e g c)
 
 -- from the outcome's
-pub sized-is : (g : Settings) (rows : ℕ → Row) (t e : ℕ) (c : Command) (o : CachingResult) (z : Size) → outcomeFor (setupNow g) rows t e g c ≡ o → SizedAs (g .mode) c o z
+pub sized-is : (g : Settings) (rows : ℕ → Row) (t e : ℕ) (c : Command) (o : CachingResult) (z : Size) → outcomeFor (setupNow g) rows t e g c ≡ o
+    → SizedAs (g .mode) c o z
     → SizeIs g rows t e c z
 sized-is g rows t e c o z q w =
     record {
@@ -128,7 +129,8 @@ module _ (g : Settings) (a s : Bytes) (t e m₀ at₀ : ℕ) (p₀ q₀ : Room) 
   -- none is left
   pub walked-end : (m at : ℕ) (p q : Room) → m ≡ 0 → Walked g a s t e m₀ at₀ p₀ q₀ m at p q → (rows : ℕ → Row) → Lent g a rows
       → (p .short || q .short)
-      ≡ (spent p₀ (length (allNodes (setupNow g) rows t e g (commandsAt s m₀ at₀))) .short || spent q₀ (length (allSent (setupNow g) rows t e g (commandsAt s m₀ at₀))) .short)
+      ≡ (spent p₀ (length (allNodes (setupNow g) rows t e g (commandsAt s m₀ at₀))) .short || spent q₀
+      (length (allSent (setupNow g) rows t e g (commandsAt s m₀ at₀))) .short)
   unfolding allNodes allSent
   walked-end m at p q z w rows o =
       let c = commands-none s m at z in

@@ -31,7 +31,8 @@ use Rattle.cached_cmd.specs.Places.{item-served, item-missing}
 use Rattle.plan_sizes.specs.Nodes.{nodesAs, nodes-ignored, nodes-not-cacheable, nodes-value, nodes-single, nodes-values, nodes-multiple}
 use Rattle.several_keys.specs.Measure.{Measures}
 use Rattle.several_keys.specs.declared.Measured.{Measured}
-use Rattle.pack_command.specs.Sends.{cachingBytes, ownBytes, singleBytes, severalWith, sentAs, own-ignored, own-not-cacheable, none-cached, packs-missing, packs-one, packs-several}
+use Rattle.pack_command.specs.Sends.{cachingBytes, ownBytes, singleBytes, severalWith, sentAs, own-ignored, own-not-cacheable, none-cached}
+use Rattle.pack_command.specs.Sends.{packs-missing, packs-one, packs-several}
 use Rattle.dry_pass.specs.declared.Size.{Size}
 
 -- it takes so many bytes in the plan, and so many are sent for it
@@ -61,13 +62,15 @@ module _ (m : CacheMode) where
   size-ignored s h n e =
       record { plan = sym (ap length nodes-ignored ∙ length-node 0 [] [] 0); send = e ∙ sym (ap length (own-ignored m s h)) }
 
-  pub size-not-cacheable : (s : Bytes) (h : Head) (n : ℕ) → n ≡ length (ownBytes s h) → SizedAs m (commandOf s h) (item notCacheable) (record { plan = 20; send = n })
+  pub size-not-cacheable : (s : Bytes) (h : Head) (n : ℕ) → n ≡ length (ownBytes s h)
+      → SizedAs m (commandOf s h) (item notCacheable) (record { plan = 20; send = n })
   size-not-cacheable s h n e =
       record { plan = sym (ap length nodes-not-cacheable ∙ length-node 0 [] [] 0); send = e ∙ sym (ap length (own-not-cacheable m s h)) }
 
   -- ---- one key
 
-  pub size-hit : (c : Command) (q : Place) (x : ℕ) (v : Bytes) (n : ℕ) → q ≡ filled v → n ≡ length v → SizedAs m c (item (singleItem q x)) (record { plan = 20 + n; send = 0 })
+  pub size-hit : (c : Command) (q : Place) (x : ℕ) (v : Bytes) (n : ℕ) → q ≡ filled v → n ≡ length v
+      → SizedAs m c (item (singleItem q x)) (record { plan = 20 + n; send = 0 })
   unfolding singleItem
   size-hit c q x v n e l =
       let a = ap length (nodes-value v) ∙ length-node 1 v [] 0 in
@@ -82,7 +85,8 @@ module _ (m : CacheMode) where
       let y : length (w .command) ≡ length (keyBytes s (Joined (h .args))) = ap length (whole-key s h (rangeBytes s key)) in
       let u = ap length p in
       let a = ap length (nodes-single w x) ∙ length-node 3 (w .key) (w .command) x in
-      let b = ap length (packs-missing m (commandOf s h) (plan.single w x) ∙ ap (λ (z : Bytes). cachingBytes m ++ z) (packs-one s h key x)) ∙ length-append (cachingBytes m) (singleBytes s h key) in
+      let b = ap length (packs-missing m (commandOf s h) (plan.single w x) ∙ ap (λ (z : Bytes). cachingBytes m ++ z) (packs-one s h key x))
+      ∙ length-append (cachingBytes m) (singleBytes s h key) in
       rw e (record { plan = omega arith; send = omega arith })
 
   -- ---- several keys
@@ -114,7 +118,8 @@ module _ (m : CacheMode) where
     size-served e =
         let q : length (missing ps) ≡ 0 = sym (w .number) ∙ e in
         let i = item-served ps (severalName (v .json)) (pathIn s v) x q in
-        let a = ap length (ap (λ (z : plan.PrepCacheItem). nodesAs (item z)) i ∙ nodes-values 0 ps q) ∙ length-append (nodeBytes 2 [] [] (length ps)) (encAll encNode (placeNodes 0 ps)) in
+        let a = ap length (ap (λ (z : plan.PrepCacheItem). nodesAs (item z)) i ∙ nodes-values 0 ps q)
+        ∙ length-append (nodeBytes 2 [] [] (length ps)) (encAll encNode (placeNodes 0 ps)) in
         let b = length-node 2 [] [] (length ps) in
         let n = w .nodes in
         record {
@@ -123,17 +128,21 @@ module _ (m : CacheMode) where
         }
 
     -- some wait
-    pub size-missing : SeveralIn s v → (d .missing ≡ 0 → ⊥) → 0 < v .keys → (k l : ℕ) → k ≡ length (cachingBytes m) → l ≡ length (severalWith s v (d .missing) (keysOf (missing ps)))
+    pub size-missing : SeveralIn s v → (d .missing ≡ 0 → ⊥) → 0 < v .keys → (k l : ℕ) → k ≡ length (cachingBytes m)
+        → l ≡ length (severalWith s v (d .missing) (keysOf (missing ps)))
         → SizedAs m c (item outcomeOf) (record { plan = 40 + d .nodes; send = k + l })
     size-missing u e p k l f g =
         let i = item-missing ps (severalName (v .json)) (pathIn s v) x (λ z. e (w .number ∙ z)) in
         let P : Bytes = encAll encNode (placeNodes x ps) in
-        let a = ap length (ap (λ (z : plan.PrepCacheItem). nodesAs (item z)) i ∙ nodes-multiple (severalName (v .json)) ps (pathIn s v) x) ∙ length-append (nodeBytes 4 [] [] (length ps)) (P ++ nodeBytes 6 [] [] 0) in
+        let a = ap length (ap (λ (z : plan.PrepCacheItem). nodesAs (item z)) i ∙ nodes-multiple (severalName (v .json)) ps (pathIn s v) x)
+        ∙ length-append (nodeBytes 4 [] [] (length ps)) (P ++ nodeBytes 6 [] [] 0) in
         let b = length-append P (nodeBytes 6 [] [] 0) in
         let y = length-node 4 [] [] (length ps) in
         let r = length-node 6 [] [] 0 in
         let n = w .nodes in
         let j = node-lengths x ps in
         let C : plan.CacheableCommand = plan.multiple (severalName (v .json)) ps (pathIn s v) x in
-        let h = ap length (ap (λ (z : plan.PrepCacheItem). sentAs m c (item z)) i ∙ packs-missing m c C ∙ ap (λ (z : Bytes). cachingBytes m ++ z) (packs-several c s v ps (d .missing) x u p (w .number))) ∙ length-append (cachingBytes m) (severalWith s v (d .missing) (keysOf (missing ps))) in
+        let h = ap length (ap (λ (z : plan.PrepCacheItem). sentAs m c (item z)) i ∙ packs-missing m c C
+        ∙ ap (λ (z : Bytes). cachingBytes m ++ z) (packs-several c s v ps (d .missing) x u p (w .number)))
+        ∙ length-append (cachingBytes m) (severalWith s v (d .missing) (keysOf (missing ps))) in
         record { plan = omega arith; send = omega arith }

@@ -48,7 +48,8 @@ module _ (p : Setup) (t e : ℕ) where
       ap (λ (l : List Answer). plan.place l u) (sym (said-dry p b t e (u ∷ [])) ∙ dry-one w bk (u ∷ []) ∙ said-dry p bk t e (u ∷ []))
 
 -- on the arena that a lookup leaves
-pub place-steady : (g : Settings) (t e : ℕ) (w : Wanted) (a a₁ : Bytes) (n n₁ : Statistics) → Looks g t e (w ∷ []) a n a₁ n₁ → (rows rows₁ : ℕ → Row) → Lent g a rows
+pub place-steady : (g : Settings) (t e : ℕ) (w : Wanted) (a a₁ : Bytes) (n n₁ : Statistics) → Looks g t e (w ∷ []) a n a₁ n₁ → (rows rows₁ : ℕ → Row)
+    → Lent g a rows
     → Lent g a₁ rows₁ → (u : Wanted) → placeOn (setupNow g) rows₁ t e u ≡ placeOn (setupNow g) rows t e u
 unfolding afterAll ons lookups
 place-steady g t e w a a₁ n n₁ x rows rows₁ o o₁ u =

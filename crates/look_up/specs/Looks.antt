@@ -78,7 +78,8 @@ module _ (g : Settings) (t e : ℕ) where
       record { rows = h .0; counts = ap countsOf z ∙ counted (effectIn (setupNow g) q (bk .rows)) a′ n bk r (b .counts) (h .1) }
 
   pub looks-one : (w : Wanted) (k c a a′ : Bytes) (n n′ : Statistics) (r : Looked) → w .key ≡ k → w .command ≡ c → n′ ≡ countedBy n r
-      → ((rows : ℕ → Row) → Lent g a rows → Lent g a′ (rowsAfter (setupNow g) (on (lookup k c t e)) rows) × Told a′ (effectIn (setupNow g) (lookup k c t e) rows) r)
+      → ((rows : ℕ → Row) → Lent g a rows → Lent g a′ (rowsAfter (setupNow g) (on (lookup k c t e)) rows)
+      × Told a′ (effectIn (setupNow g) (lookup k c t e) rows) r)
       → Looks g t e (w ∷ []) a n a′ n′
   unfolding afterAll ons lookups
   looks-one w k c a a′ n n′ r p q z h bk b =

@@ -306,7 +306,8 @@ pub packs-several : (c : Command) (s : Bytes) (v : Several) (ps : List Place) (n
 unfolding packs
 packs-several c s v ps n x w k q =
     sent-more _ _
-    ∙ ap₂ (λ (y z : Bytes). y ++ z) (name-pieces s v w n (keysOf (missing ps)) k (q ∙ sym (keys-length (missing ps)))) (sent-packed (pttls (keysOf (missing ps))))
+    ∙ ap₂ (λ (y z : Bytes). y ++ z) (name-pieces s v w n (keysOf (missing ps)) k (q ∙ sym (keys-length (missing ps))))
+    (sent-packed (pttls (keysOf (missing ps))))
 
 -- ---- by the outcome as the code holds it
 

@@ -23,7 +23,8 @@ use Rattle.format.specs.Runs.{encAll}
 use Rattle.planning.specs.Sent.{pttls}
 use Rattle.ask.specs.Asked.{severalName, pathIn, SeveralIn}
 use Rattle.ask.specs.declared.Several.{Several}
-use Rattle.pack_command.specs.Sends.{cachingBytes, caching-all, caching-opt-in, ownBytes, singleBytes, argumentCount, getName, severalWith, path-json, path-none, name-json, name-plain}
+use Rattle.pack_command.specs.Sends.{cachingBytes, caching-all, caching-opt-in, ownBytes, singleBytes, argumentCount, getName, severalWith}
+use Rattle.pack_command.specs.Sends.{path-json, path-none, name-json, name-plain}
 
 -- ---- `CLIENT CACHING YES`
 
@@ -50,7 +51,8 @@ blobs-bound s cur (suc n) at w h k =
     omega arith
 
 -- so it has at most 2^32
-pub own-bound : (s : Bytes) (h : Head) → ArgsHere s (h .args) → length s ≤ maxBytes → h .args .left ≤ maxArguments → h .cursor < 2 ^ 64 → length (ownBytes s h) ≤ 2 ^ 32
+pub own-bound : (s : Bytes) (h : Head) → ArgsHere s (h .args) → length s ≤ maxBytes → h .args .left ≤ maxArguments → h .cursor < 2 ^ 64
+    → length (ownBytes s h) ≤ 2 ^ 32
 own-bound s h w m n k =
     let p = packed-length s (h .cursor) (h .args .left) (h .args .at) in
     let b = blobs-bound s (h .cursor) (h .args .left) (h .args .at) w m k in
@@ -128,7 +130,8 @@ pttls-length (k ∷ ks) =
 
 -- all of it
 pub several-length : (s : Bytes) (v : Several) (n : ℕ) (ks : List Bytes)
-    → length (severalWith s v n ks) ≡ length (getName (v .json) n) + length (blobBytes ks) + length (blobBytes (pathIn s v)) + (length (blobBytes ks) + 14 * length ks)
+    → length (severalWith s v n ks) ≡ length (getName (v .json) n) + length (blobBytes ks) + length (blobBytes (pathIn s v)) +
+    (length (blobBytes ks) + 14 * length ks)
 several-length s v n ks =
     let a = length-append (getName (v .json) n ++ (blobBytes ks ++ blobBytes (pathIn s v))) (encAll packed (pttls ks)) in
     let b = length-append (getName (v .json) n) (blobBytes ks ++ blobBytes (pathIn s v)) in

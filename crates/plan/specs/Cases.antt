@@ -41,12 +41,15 @@ bare k x = node k x [] [] 0 0
 -- a plan of every kind of node, a transaction's
 whole-plan : decodePlan
     (start 1 5 ++ (bare 0 0 ++ (node 1 0 (ascii "+u\r\n") [] 4 0 ++ (bare 2 1 ++ (node 1 0 (ascii "_\r\n") [] 3 0
-    ++ (node 3 9 (ascii "k") (ascii "GETk") 1 4 ++ (bare 4 2 ++ (node 5 7 (ascii "a") (ascii "GETa") 1 4 ++ (node 1 0 (ascii ":1\r\n") [] 4 0 ++ bare 6 0)))))))))
+    ++ (node 3 9 (ascii "k") (ascii "GETk") 1 4
+    ++ (bare 4 2 ++ (node 5 7 (ascii "a") (ascii "GETa") 1 4 ++ (node 1 0 (ascii ":1\r\n") [] 4 0 ++ bare 6 0)))))))))
     ≡ some
     (record {
       transaction = true;
       commands = 5;
-      nodes = handOn ∷ servedValue (ascii "+u\r\n") ∷ allServed 1 ∷ servedValue (ascii "_\r\n") ∷ missingKey (record { key = ascii "k"; command = ascii "GETk" }) 9
+      nodes =
+          handOn ∷ servedValue (ascii "+u\r\n") ∷ allServed 1 ∷ servedValue (ascii "_\r\n")
+          ∷ missingKey (record { key = ascii "k"; command = ascii "GETk" }) 9
           ∷ several 2 ∷ waitingPlace (record { key = ascii "a"; command = ascii "GETa" }) 7 ∷ servedValue (ascii ":1\r\n") ∷ endOfSeveral ∷ [];
     })
 unfolding case-defs

@@ -75,7 +75,8 @@ module _ (k : ℕ) (A B : Bytes) (x : ℕ) where
       let u = both-yes _ _ (t .1) in
       record { node = servedValue A; good = value-law A .0 (u .1); is = rw (e, none-left B (eqb-true _ _ (t .0)), eqb-true x 0 (u .0)) }
 
-  places-good : (nd : ℕ → Node) → (x ≤ maxArguments → GoodNode (nd x)) → encNode (nd x) ≡ nodeBytes k [] [] x → placesFine (length A) (length B) x ≡ true → GoodParts k A B x
+  places-good : (nd : ℕ → Node) → (x ≤ maxArguments → GoodNode (nd x)) → encNode (nd x) ≡ nodeBytes k [] [] x → placesFine (length A) (length B) x ≡ true
+      → GoodParts k A B x
   places-good nd g e h =
       let t = both-yes _ _ h in
       let u = both-yes _ _ (t .1) in

@@ -81,7 +81,8 @@ unfolding orderedAt headOf
 order-step w at nd ns = go (w .several)
   where
     go : (b : Bool) → orderedBy b (w .places) (w .commands) (nd ∷ ns)
-        ≡ orderedAfter (cond b (asPlace (w .places) (w .commands) (headOf at nd .kind) (headOf at nd .end)) (asValue (w .places) (w .commands) (headOf at nd .kind) (headOf at nd .number) (headOf at nd .end))) ns
+        ≡ orderedAfter (cond b (asPlace (w .places) (w .commands) (headOf at nd .kind) (headOf at nd .end))
+        (asValue (w .places) (w .commands) (headOf at nd .kind) (headOf at nd .number) (headOf at nd .end))) ns
     go true = place-step (headOf at nd .end) ns (w .places) (w .commands) nd
     go false = value-step (headOf at nd .end) ns (w .places) (w .commands) nd
 

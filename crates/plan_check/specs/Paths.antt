@@ -121,7 +121,8 @@ unfolding wholeAt
 whole-says s at e = let t = both-yes _ _ e in (leb-true _ _ (t .0), leb-true _ _ (t .1))
 
 -- the parts of its head lie one after the other, inside
-pub parts-lie : (s : Bytes) (at : ℕ) (h : NodeHead) → wholeAt s at ≡ true → h ≡ headAt s at → (h .first ≤ h .second) × (h .second ≤ h .end) × (h .end ≤ length s)
+pub parts-lie : (s : Bytes) (at : ℕ) (h : NodeHead) → wholeAt s at ≡ true → h ≡ headAt s at
+    → (h .first ≤ h .second) × (h .second ≤ h .end) × (h .end ≤ length s)
 unfolding headAt
 parts-lie s at h e i = let q = whole-says s at e in rw i (omega arith, omega arith, q .1)
 

@@ -142,7 +142,8 @@ pub record Commands-read (k : ℕ) (ns : List Node) : Type 0 where
   pub all : CommandsHave Sent Asked Valid (commandsOf k ns)
 
 -- one of a single node more
-one-more : (c : Command) (x : Node) (k : ℕ) (ns : List Node) → ((cs : List Command) → commandNodes (c ∷ cs) ≡ x ∷ commandNodes cs) → CommandHas Sent Asked Valid c
+one-more : (c : Command) (x : Node) (k : ℕ) (ns : List Node) → ((cs : List Command) → commandNodes (c ∷ cs) ≡ x ∷ commandNodes cs)
+    → CommandHas Sent Asked Valid c
     → commandsOf (suc k) (x ∷ ns) ≡ c ∷ commandsOf k ns → Commands-read k ns → Commands-read (suc k) (x ∷ ns)
 one-more c x k ns f h e r =
     record {

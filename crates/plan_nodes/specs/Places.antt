@@ -83,7 +83,8 @@ pub record Served (g : Settings) (t e : ℕ) (w : Wanted) (a a₁ : Bytes) (from
   pub short : length (part a₁ from (end - from)) ≤ maxArena
   pub is : (rows : ℕ → Row) → Lent g a rows → placeOn (setupNow g) rows t e w ≡ filled (part a₁ from (end - from))
 
-pub found-hit : (g : Settings) (t e : ℕ) (w : Wanted) (a : Bytes) (n : Statistics) (a₁ : Bytes) (f : Found) → Finds g t e w a n a₁ f → Arena g a → (from end : ℕ)
+pub found-hit : (g : Settings) (t e : ℕ) (w : Wanted) (a : Bytes) (n : Statistics) (a₁ : Bytes) (f : Found) → Finds g t e w a n a₁ f → Arena g a
+    → (from end : ℕ)
     → f .looked ≡ Hit from end → Served g t e w a a₁ from end
 found-hit g t e w a n a₁ f h v from end q =
     let k = told-hit a₁ w (placeOn (setupNow g) (v .rows) t e w) (f .looked) from end q (h .told (v .rows) (v .lent)) in
@@ -97,7 +98,8 @@ found-hit g t e w a n a₁ f h v from end q =
       is = λ rows o. told-hit a₁ w (placeOn (setupNow g) rows t e w) (f .looked) from end q (h .told rows o) .2;
     }
 
-pub found-miss : (g : Settings) (t e : ℕ) (w : Wanted) (a : Bytes) (n : Statistics) (a₁ : Bytes) (f : Found) → Finds g t e w a n a₁ f → (m : ℕ) → f .looked ≡ Miss m
+pub found-miss : (g : Settings) (t e : ℕ) (w : Wanted) (a : Bytes) (n : Statistics) (a₁ : Bytes) (f : Found) → Finds g t e w a n a₁ f → (m : ℕ)
+    → f .looked ≡ Miss m
     → (rows : ℕ → Row) → Lent g a rows → placeOn (setupNow g) rows t e w ≡ waiting w
 found-miss g t e w a n a₁ f h m q rows o = told-miss a₁ w (placeOn (setupNow g) rows t e w) (f .looked) m q (h .told rows o)
 
@@ -168,9 +170,11 @@ module _ (g : Settings) (t e x : ℕ) (s : Bytes) (v : Several) where
       pub copied : (rows : ℕ → Row) → Lent g a₀ rows → Copied d₀ (y₀ .to) (nodesFrom rows (v .args) (v .keys)) d (y .to) (nodesFrom rows k n)
       pub number : (rows : ℕ → Row) → Lent g a₀ rows
           → y .missing + length (missing (placesFrom g rows t e s v k n)) ≡ y₀ .missing + length (missing (placesFrom g rows t e s v (v .args) (v .keys)))
-      pub fits : (rows : ℕ → Row) → Lent g a₀ rows → All FitsPlace (placesFrom g rows t e s v k n) → All FitsPlace (placesFrom g rows t e s v (v .args) (v .keys))
+      pub fits : (rows : ℕ → Row) → Lent g a₀ rows → All FitsPlace (placesFrom g rows t e s v k n)
+          → All FitsPlace (placesFrom g rows t e s v (v .args) (v .keys))
 
-    pub writing-start : SeveralIn s v → Arena g a₀ → ((rows : ℕ → Row) → Lent g a₀ rows → y₀ .to + length (encAll encNode (placeNodes x (placesNow g rows t e s v))) ≤ length d₀)
+    pub writing-start : SeveralIn s v → Arena g a₀
+        → ((rows : ℕ → Row) → Lent g a₀ rows → y₀ .to + length (encAll encNode (placeNodes x (placesNow g rows t e s v))) ≤ length d₀)
         → Writing (v .args) (v .keys) a₀ d₀ y₀
     writing-start i w r =
         record {
@@ -189,13 +193,16 @@ module _ (g : Settings) (t e x : ℕ) (s : Bytes) (v : Several) where
 
       -- the first place, on the rows before
       first-more : (rows : ℕ → Row) → nodesFrom rows k n ≡ placeNode x (placeOn (setupNow g) rows t e here) ++ nodesFrom rows (r .rest) j
-      first-more rows = ap (λ (l : List Place). encAll encNode (placeNodes x l)) (places-more g rows t e s v k r n j q i) ∙ nodes-more x (placeOn (setupNow g) rows t e here) _
+      first-more rows =
+          ap (λ (l : List Place). encAll encNode (placeNodes x l)) (places-more g rows t e s v k r n j q i)
+          ∙ nodes-more x (placeOn (setupNow g) rows t e here) _
 
       -- room for its node, by the rows as they are
       pub writing-room : (rows : ℕ → Row) → Lent g a rows → y .to + length (placeNode x (placeOn (setupNow g) rows t e here)) ≤ length d
       writing-room rows o =
           let z = ap (λ (p : Place). length (placeNode x p)) (h .steady (w .rows) rows (w .lent) o here) in
-          let b = copied-room d₀ _ d (placeNode x (placeOn (setupNow g) (w .rows) t e here)) _ (nodesFrom (w .rows) (r .rest) j) (y₀ .to) (y .to) (first-more (w .rows)) (h .copied (w .rows) (w .lent)) in
+          let b = copied-room d₀ _ d (placeNode x (placeOn (setupNow g) (w .rows) t e here)) _ (nodesFrom (w .rows) (r .rest) j) (y₀ .to) (y .to)
+          (first-more (w .rows)) (h .copied (w .rows) (w .lent)) in
           omega arith
 
       -- one key further
@@ -214,7 +221,8 @@ module _ (g : Settings) (t e x : ℕ) (s : Bytes) (v : Several) where
             copied = λ rows o.
                 let b = p .wrote (A .rows) (A .lent) in
                 let u = ap (placeNode x) (h .steady rows (A .rows) o (A .lent) here) in
-                copied-next d₀ _ d d₁ (placeNode x (placeOn (setupNow g) rows t e here)) (nodesFrom rows k n) (nodesFrom rows (r .rest) j) (y₀ .to) (y .to) (z .to) (first-more rows)
+                copied-next d₀ _ d d₁ (placeNode x (placeOn (setupNow g) rows t e here)) (nodesFrom rows k n) (nodesFrom rows (r .rest) j) (y₀ .to)
+                (y .to) (z .to) (first-more rows)
                 (b .ends ∙ ap (λ (bs : Bytes). y .to + length bs) u) (b .is ∙ ap (put d (y .to)) u) (h .copied rows o);
             number = λ rows o.
                 let b = ap (λ (l : List Place). length (missing l)) (places-more g rows t e s v k r n j q i) in

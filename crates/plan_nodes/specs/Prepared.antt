@@ -51,13 +51,15 @@ use Rattle.pack_command.specs.Sends.{Holds}
 use Rattle.plan_nodes.specs.declared.Prepared.{Prepared}
 
 -- the answer tells the outcome o, whose nodes are written at `to`; the keys of several that wait are read from where it says
-pub record Prepares (g : Settings) (rows : ℕ → Row) (t e : ℕ) (s a d : Bytes) (to : ℕ) (d₁ : Bytes) (c : Command) (o : plan.CachingResult) (r : Prepared) : Type 0 where
+pub record Prepares (g : Settings) (rows : ℕ → Row) (t e : ℕ) (s a d : Bytes) (to : ℕ) (d₁ : Bytes) (c : Command) (o : plan.CachingResult)
+    (r : Prepared) : Type 0 where
   pub tells : Tells (setupNow g) rows t e s a c o (r .result)
   pub wrote : Wrote d to (nodesAs o) d₁ (r .to)
   pub holds : Holds g rows t e s d₁ (Nodes (r .places)) (r .result)
 
 -- of an outcome under another name
-pub prepares-as : (g : Settings) (rows : ℕ → Row) (t e : ℕ) (s a d : Bytes) (to : ℕ) (d₁ : Bytes) (c : Command) (o u : plan.CachingResult) (r : Prepared) → u ≡ o
+pub prepares-as : (g : Settings) (rows : ℕ → Row) (t e : ℕ) (s a d : Bytes) (to : ℕ) (d₁ : Bytes) (c : Command) (o u : plan.CachingResult) (r : Prepared)
+    → u ≡ o
     → Prepares g rows t e s a d to d₁ c o r → Prepares g rows t e s a d to d₁ c u r
 prepares-as g rows t e s a d to d₁ c o u r q w = subst (λ (z : plan.CachingResult). Prepares g rows t e s a d to d₁ c z r) (sym q) w
 
@@ -100,7 +102,8 @@ module _ (x : ℕ) (ps : List Place) (n : Bytes) (path : List Bytes) where
   pub several-least : 20 + length P ≤ length (nodesAs outcomeOf)
   several-least =
       byTest (eqb (length (missing ps)) 0)
-      (λ b. let l = ap length (nodes-served (eqb-true _ _ b)) ∙ length-append (nodeBytes 2 [] [] (length ps)) P in let k = length-node 2 [] [] (length ps) in omega arith)
+      (λ b. let l = ap length (nodes-served (eqb-true _ _ b)) ∙ length-append (nodeBytes 2 [] [] (length ps)) P in
+      let k = length-node 2 [] [] (length ps) in omega arith)
       (λ b.
       let l = ap length (nodes-missing (eqb-false _ _ b)) ∙ length-append (nodeBytes 4 [] [] (length ps)) (P ++ nodeBytes 6 [] [] 0) in
       let j = length-append P (nodeBytes 6 [] [] 0) in
@@ -152,7 +155,8 @@ module _ (x : ℕ) (ps : List Place) (n : Bytes) (path : List Bytes) where
       missing-held d₃ f k y h fits l =
           let b = missing-wrote d₃ f y in
           let z : drop (to + 20) d₃ ≡ (P ++ nodeBytes 6 [] [] 0) ++ drop (to + length (H ++ (P ++ nodeBytes 6 [] [] 0))) d =
-          ap (drop (to + 20)) (b .is ∙ ap (put d to) (nodes-missing q)) ∙ drop-put d H (P ++ nodeBytes 6 [] [] 0) to 20 (length-node 4 [] [] (length ps)) (omega arith) in
+          ap (drop (to + 20)) (b .is ∙ ap (put d to) (nodes-missing q))
+          ∙ drop-put d H (P ++ nodeBytes 6 [] [] 0) to 20 (length-node 4 [] [] (length ps)) (omega arith) in
           rw (← l) (keys-held d₃ x h ps (to + 20) _ fits (z ∙ append-assoc P (nodeBytes 6 [] [] 0) _))
 
 module _ (g : Settings) (rows : ℕ → Row) (t e x : ℕ) (s : Bytes) (v : Several) (i : SeveralIn s v) (a d d₁ d₂ : Bytes) (to e₁ m : ℕ) (n : Statistics)
@@ -167,7 +171,8 @@ module _ (g : Settings) (rows : ℕ → Row) (t e x : ℕ) (s : Bytes) (v : Seve
 
   -- none waits
   pub prepares-served : (c : Command) → m ≡ 0 → d₂ ≡ put d₁ to (nodeBytes 2 [] [] (v .keys))
-      → Prepares g rows t e s a d to d₂ c (item (severalItem (setupNow g) rows t e s v x)) (record { result = Item (Cached (Values v)); places = to + 20; to = e₁; counts = n })
+      → Prepares g rows t e s a d to d₂ c (item (severalItem (setupNow g) rows t e s v x))
+      (record { result = Item (Cached (Values v)); places = to + 20; to = e₁; counts = n })
   prepares-served c q u =
       let z = several-served (setupNow g) rows t e s a c v i x m k q in
       record {
@@ -181,7 +186,8 @@ module _ (g : Settings) (rows : ℕ → Row) (t e x : ℕ) (s : Bytes) (v : Seve
     pub prepares-room : e₁ + length (nodeBytes 6 [] [] 0) ≤ length d₂
     prepares-room = end-room x ps (severalName (v .json)) (pathIn s v) d d₁ d₂ to e₁ r w (λ z. q (k ∙ z)) (head-is 4 u)
 
-    pub prepares-missing : (c : Command) (d₃ : Bytes) (f : ℕ) → (f ≡ e₁ + length (nodeBytes 6 [] [] 0)) × (d₃ ≡ put d₂ e₁ (nodeBytes 6 [] [] 0)) → x < 2 ^ 64 → All FitsPlace ps
+    pub prepares-missing : (c : Command) (d₃ : Bytes) (f : ℕ) → (f ≡ e₁ + length (nodeBytes 6 [] [] 0)) × (d₃ ≡ put d₂ e₁ (nodeBytes 6 [] [] 0))
+        → x < 2 ^ 64 → All FitsPlace ps
         → Prepares g rows t e s a d to d₃ c (item (severalItem (setupNow g) rows t e s v x))
         (record { result = Item (NotCached (Multiple v m x)); places = to + 20; to = f; counts = n })
     prepares-missing c d₃ f y h fits =
@@ -190,7 +196,9 @@ module _ (g : Settings) (rows : ℕ → Row) (t e x : ℕ) (s : Bytes) (v : Seve
         record {
           tells = record { is = ap item (z .is); inside = z .inside };
           wrote = missing-wrote x ps (severalName (v .json)) (pathIn s v) d d₁ d₂ to e₁ r w (λ z. q (k ∙ z)) (head-is 4 u) d₃ f b;
-          holds = missing-held x ps (severalName (v .json)) (pathIn s v) d d₁ d₂ to e₁ r w (λ z. q (k ∙ z)) (head-is 4 u) d₃ f (v .keys) b h fits (keys-count g rows t e s v i);
+          holds =
+              missing-held x ps (severalName (v .json)) (pathIn s v) d d₁ d₂ to e₁ r w (λ z. q (k ∙ z)) (head-is 4 u) d₃ f (v .keys) b h fits
+              (keys-count g rows t e s v i);
         }
 
 -- ---- one key
@@ -212,7 +220,8 @@ module _ (g : Settings) (rows : ℕ → Row) (t e x : ℕ) (s : Bytes) (h : Head
   unfolding singleItem
   one-filled b q = rw q (nodes-value b)
 
-  pub one-waiting : (k y : Bytes) → Q ≡ plan.waiting W → k ≡ rangeBytes s key → y ≡ keyBytes s (Joined (h .args)) → nodesAs (item (singleItem Q x)) ≡ nodeBytes 3 k y x
+  pub one-waiting : (k y : Bytes) → Q ≡ plan.waiting W → k ≡ rangeBytes s key → y ≡ keyBytes s (Joined (h .args))
+      → nodesAs (item (singleItem Q x)) ≡ nodeBytes 3 k y x
   unfolding singleItem wholeKey
   one-waiting k y q i j = rw (q, i, j) (nodes-single W x ∙ ap (λ (z : Bytes). nodeBytes 3 (rangeBytes s key) z x) (whole-key s h (rangeBytes s key)))
 
@@ -227,7 +236,8 @@ module _ (g : Settings) (rows : ℕ → Row) (t e x : ℕ) (s : Bytes) (h : Head
 
     pub prepares-miss : (m : ℕ) (k y : Bytes) → RangeIn s key → Q ≡ plan.waiting W → k ≡ rangeBytes s key → y ≡ keyBytes s (Joined (h .args))
         → (e₁ ≡ to + length (nodeBytes 3 k y x)) × (d₁ ≡ put d to (nodeBytes 3 k y x))
-        → Prepares g rows t e s a d to d₁ (commandOf s h) (item (singleItem Q x)) (record { result = Item (NotCached (Single key x)); places = to; to = e₁; counts = n })
+        → Prepares g rows t e s a d to d₁ (commandOf s h) (item (singleItem Q x))
+        (record { result = Item (NotCached (Single key x)); places = to; to = e₁; counts = n })
     prepares-miss m k y i q p j w =
         let z = single-miss (setupNow g) rows t e s a (commandOf s h) key x m i q in
         record { tells = record { is = ap item (z .is); inside = z .inside }; wrote = wrote-is d d₁ _ _ to e₁ (one-waiting k y q p j) w; holds = tt }
@@ -239,5 +249,6 @@ module _ (g : Settings) (rows : ℕ → Row) (t e : ℕ) (s a d : Bytes) (to : �
   pub prepares-ignored : Prepares g rows t e s a d to d₁ c plan.ignored (record { result = Ignored; places = to; to = e₁; counts = n })
   prepares-ignored = record { tells = record { is = refl; inside = tt }; wrote = wrote-is d d₁ _ _ to e₁ nodes-ignored w; holds = tt }
 
-  pub prepares-not-cacheable : Prepares g rows t e s a d to d₁ c (item plan.notCacheable) (record { result = Item NotCacheable; places = to; to = e₁; counts = n })
+  pub prepares-not-cacheable : Prepares g rows t e s a d to d₁ c (item plan.notCacheable)
+      (record { result = Item NotCacheable; places = to; to = e₁; counts = n })
   prepares-not-cacheable = record { tells = record { is = refl; inside = tt }; wrote = wrote-is d d₁ _ _ to e₁ nodes-not-cacheable w; holds = tt }

@@ -24,7 +24,8 @@ use Rattle.resolving.specs.Plan.{Missing, Plan}
 use Rattle.plan.specs.Decode.{decodePlan}
 use Rattle.plan.specs.Law.{decode-law}
 use Rattle.plan_commands.specs.Commands.{valueAt, placeAt, valuesAt, placesAt, commandsOf, planRead}
-use Rattle.plan_outcomes.specs.Outcomes.{missingUntil, valuesGiven, placeGiven, servedGiven, missingGiven, commandGiven, planGiven, placesMissing, commandMissing, commandsMissing, untilGiven}
+use Rattle.plan_outcomes.specs.Outcomes.{missingUntil, valuesGiven, placeGiven, servedGiven, missingGiven, commandGiven, planGiven}
+use Rattle.plan_outcomes.specs.Outcomes.{placesMissing, commandMissing, commandsMissing, untilGiven}
 
 -- ---- nodes read as commands
 
@@ -34,7 +35,8 @@ values-read [] ns = (refl, refl)
 values-read (v ∷ vs) ns = let i = values-read vs ns in (rw (i .0), i .1)
 
 places-read : (x : ℕ) (ps : List outcome.Place) (ns : List Node)
-    → (placesAt (length ps) ((placeNodes x ps ++ (endOfSeveral ∷ [])) ++ ns) ≡ map (placeGiven x) ps) × (drop (suc (length ps)) ((placeNodes x ps ++ (endOfSeveral ∷ [])) ++ ns) ≡ ns)
+    → (placesAt (length ps) ((placeNodes x ps ++ (endOfSeveral ∷ [])) ++ ns) ≡ map (placeGiven x) ps)
+    × (drop (suc (length ps)) ((placeNodes x ps ++ (endOfSeveral ∷ [])) ++ ns) ≡ ns)
 unfolding placesAt placeAt placeNodes placeGiven missingUntil
 places-read x [] ns = (refl, refl)
 places-read x (outcome.filled v ∷ ps) ns = let i = places-read x ps ns in (rw (i .0), i .1)
@@ -102,7 +104,8 @@ written-read b rs g =
     }
 
 -- what planning writes for a valid record of at most 16 MiB, of which no client expiry is past 64 bits, on a cache that holds values, is read as its outcomes
-pub planned-read : (s : Settings) (t : ℕ) (r : Record) (said : List Answer) → ValidRecord r → length (encRecord r) ≤ maxBytes → anyLate s t (r .commands) ≡ false
+pub planned-read : (s : Settings) (t : ℕ) (r : Record) (said : List Answer) → ValidRecord r → length (encRecord r) ≤ maxBytes
+    → anyLate s t (r .commands) ≡ false
     → All GoodAnswer said → Read (plannedFrom s t r said .plan) (transaction r) (outcomes s t (r .commands) said)
 unfolding plannedFrom plannedBy
 planned-read s t r said v b e h = written-read (transaction r) (outcomes s t (r .commands) said) (good-plan s t r said v b e h)

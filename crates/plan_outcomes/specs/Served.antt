@@ -16,7 +16,8 @@ use Rattle.resp3.specs.Value.{IsValue}
 use Rattle.resp3.specs.Ends.{isValue}
 use Rattle.resp3.specs.Law.{value-law}
 use Rattle.call_record.specs.Record.{Record, encRecord, ValidRecord, transaction}
-use Rattle.book.specs.Book.{Setup, Entry, Item, Row, Book, Answer, hit, miss, find, without, valueFor, current, serve, lookupItem, keyOf, effectOn, effect, answerTo}
+use Rattle.book.specs.Book.{Setup, Entry, Item, Row, Book, Answer, hit, miss, find, without, valueFor, current, serve, lookupItem, keyOf, effectOn}
+use Rattle.book.specs.Book.{effect, answerTo}
 use Rattle.book.specs.Calls.{Wanted}
 use Rattle.book.specs.Each.{Each, each-find}
 use Rattle.book.specs.Lookups.{dry, planned}

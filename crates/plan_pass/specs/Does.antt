@@ -78,11 +78,13 @@ module _ (g : Settings) (t e : ℕ) where
     middle : (rows : ℕ → Row) → Lent g a rows → Lent g a₁ (behind rows .rows)
     middle rows h = o .looks (before rows) (record { rows = h; counts = refl }) .rows
 
-    plan-both : (rows : ℕ → Row) → allNodes (setupNow g) rows t e g (c ∷ cs) ≡ nodesFor (setupNow g) rows t e g c ++ allNodes (setupNow g) (behind rows .rows) t e g cs
+    plan-both : (rows : ℕ → Row) → allNodes (setupNow g) rows t e g (c ∷ cs) ≡ nodesFor (setupNow g) rows t e g c
+        ++ allNodes (setupNow g) (behind rows .rows) t e g cs
     unfolding allNodes
     plan-both rows = ap (λ (z : Bytes). nodesFor (setupNow g) rows t e g c ++ z) (sym (nodes-after (setupNow g) t e g (wants c (ask g t c)) (before rows) cs))
 
-    send-both : (rows : ℕ → Row) → allSent (setupNow g) rows t e g (c ∷ cs) ≡ sentFor (setupNow g) rows t e g c ++ allSent (setupNow g) (behind rows .rows) t e g cs
+    send-both : (rows : ℕ → Row) → allSent (setupNow g) rows t e g (c ∷ cs) ≡ sentFor (setupNow g) rows t e g c
+        ++ allSent (setupNow g) (behind rows .rows) t e g cs
     unfolding allSent
     send-both rows = ap (λ (z : Bytes). sentFor (setupNow g) rows t e g c ++ z) (sym (sent-after (setupNow g) t e g (wants c (ask g t c)) (before rows) cs))
 
@@ -92,9 +94,11 @@ module _ (g : Settings) (t e : ℕ) where
     does-more a₂ d₂ f₂ x₂ w =
         record {
           plan = λ rows h.
-              wrote-both d d₁ d₂ _ _ _ (x .to) (x₁ .to) (x₂ .to) (plan-both rows) (r .plan rows h) (o .plan rows h) (w .plan (behind rows .rows) (middle rows h));
+              wrote-both d d₁ d₂ _ _ _ (x .to) (x₁ .to) (x₂ .to) (plan-both rows) (r .plan rows h) (o .plan rows h)
+              (w .plan (behind rows .rows) (middle rows h));
           send = λ rows h.
-              wrote-both f f₁ f₂ _ _ _ (x .from) (x₁ .from) (x₂ .from) (send-both rows) (r .send rows h) (o .send rows h) (w .send (behind rows .rows) (middle rows h));
+              wrote-both f f₁ f₂ _ _ _ (x .from) (x₁ .from) (x₂ .from) (send-both rows) (r .send rows h) (o .send rows h)
+              (w .send (behind rows .rows) (middle rows h));
           count = λ rows h.
               let i = o .count rows h in
               let j = w .count (behind rows .rows) (middle rows h) in
@@ -125,8 +129,12 @@ module _ (g : Settings) (t e : ℕ) where
     long-more w =
         let R : ℕ → Row = w .rows in
         let h = w .lent in (
-          wrote-long d d₁ _ (x .to) (x₁ .to) (room-first _ (nodesFor (setupNow g) R t e g c) (allNodes (setupNow g) (behind R .rows) t e g cs) (x .to) (length d) (plan-both R) (r .plan R h)) (o .plan R h),
-          wrote-long f f₁ _ (x .from) (x₁ .from) (room-first _ (sentFor (setupNow g) R t e g c) (allSent (setupNow g) (behind R .rows) t e g cs) (x .from) (length f) (send-both R) (r .send R h)) (o .send R h),
+          wrote-long d d₁ _ (x .to) (x₁ .to)
+              (room-first _ (nodesFor (setupNow g) R t e g c) (allNodes (setupNow g) (behind R .rows) t e g cs) (x .to) (length d) (plan-both R)
+              (r .plan R h)) (o .plan R h),
+          wrote-long f f₁ _ (x .from) (x₁ .from)
+              (room-first _ (sentFor (setupNow g) R t e g c) (allSent (setupNow g) (behind R .rows) t e g cs) (x .from) (length f) (send-both R)
+              (r .send R h)) (o .send R h),
         )
 
   -- room for the first alone

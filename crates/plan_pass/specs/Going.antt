@@ -27,7 +27,8 @@ module _ (g : Settings) (t e : ℕ) (s : Bytes) (m₀ at₀ : ℕ) (a₀ d₀ f�
     pub long : length a ≡ length a₀
     pub plan-long : length d ≡ length d₀
     pub send-long : length f ≡ length f₀
-    pub goes : (a′ d′ f′ : Bytes) (x′ : Progress) → Does g t e (commandsAt s m at) a d f x a′ d′ f′ x′ → Does g t e (commandsAt s m₀ at₀) a₀ d₀ f₀ x₀ a′ d′ f′ x′
+    pub goes : (a′ d′ f′ : Bytes) (x′ : Progress) → Does g t e (commandsAt s m at) a d f x a′ d′ f′ x′
+        → Does g t e (commandsAt s m₀ at₀) a₀ d₀ f₀ x₀ a′ d′ f′ x′
 
   pub going-start : Planable g t s m₀ at₀ → Arena g a₀ → Room g t e (commandsAt s m₀ at₀) a₀ d₀ f₀ x₀ → Going m₀ at₀ a₀ d₀ f₀ x₀
   going-start w v r =

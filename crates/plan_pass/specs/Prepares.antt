@@ -17,7 +17,8 @@ use Rattle.pipeline.specs.Counts.{countWith, ResultFew, count-held}
 use Rattle.plan_nodes.specs.Prepared.{Prepares}
 use Rattle.plan_nodes.specs.declared.Prepared.{Prepared}
 
-module _ (m : CacheMode) (g : Settings) (rows : ℕ → Row) (t e : ℕ) (s a d : Bytes) (to : ℕ) (d₁ : Bytes) (h : Head) (o : CachingResult) (r : Prepared) (l : length s ≤ maxBytes)
+module _ (m : CacheMode) (g : Settings) (rows : ℕ → Row) (t e : ℕ) (s a d : Bytes) (to : ℕ) (d₁ : Bytes) (h : Head) (o : CachingResult) (r : Prepared)
+    (l : length s ≤ maxBytes)
     (w : Prepares g rows t e s a d to d₁ (commandOf s h) o r) where
   pub prepared-sent : (sentAs m (commandOf s h) o ≡ sentWith m s h d₁ (Nodes (r .places)) (r .result)) × ResultSends s d₁ (Nodes (r .places)) (r .result)
   prepared-sent =

@@ -8,7 +8,8 @@ use lib.ListN.{length, length-append}
 use Rattle.buffer.specs.Same.{Bytes}
 use Rattle.format.specs.Runs.{encAll}
 use Rattle.book.specs.Calls.{Wanted}
-use Rattle.planning.specs.Outcome.{Place, filled, waiting, missing, servedValues, value, values, single, multiple, cached, notCached, notCacheable, CachingResult, item, ignored}
+use Rattle.planning.specs.Outcome.{Place, filled, waiting, missing, servedValues, value, values, single, multiple, cached, notCached, notCacheable}
+use Rattle.planning.specs.Outcome.{CachingResult, item, ignored}
 use Rattle.planning.specs.Plan.{Node, endOfSeveral, valueNodes, placeNodes, servedNodes, missingNodes, nodesOf, nodeBytes, encNode}
 use Rattle.plan_sizes.specs.Joined.{encAll-append}
 

@@ -41,7 +41,8 @@ node-pieces kind a b number =
     let B : Bytes = le32 (length a) in
     let C : Bytes = le32 (length b) in
     let D : Bytes = le64 number in
-    sym (append-assoc A (B ++ (C ++ D)) (a ++ b) ∙ ap (λ (z : Bytes). A ++ z) (append-assoc B (C ++ D) (a ++ b) ∙ ap (λ (z : Bytes). B ++ z) (append-assoc C D (a ++ b))))
+    sym (append-assoc A (B ++ (C ++ D)) (a ++ b) ∙ ap (λ (z : Bytes). A ++ z)
+    (append-assoc B (C ++ D) (a ++ b) ∙ ap (λ (z : Bytes). B ++ z) (append-assoc C D (a ++ b))))
 
 -- ---- lengths
 

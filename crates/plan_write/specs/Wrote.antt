@@ -43,6 +43,7 @@ room-second d d₁ all x y to e q h w =
 
 -- ---- one writer after the other
 
-pub wrote-both : (d d₁ d₂ all x y : Bytes) (to e f : ℕ) → all ≡ x ++ y → to + length all ≤ length d → Wrote d to x d₁ e → Wrote d₁ e y d₂ f → Wrote d to all d₂ f
+pub wrote-both : (d d₁ d₂ all x y : Bytes) (to e f : ℕ) → all ≡ x ++ y → to + length all ≤ length d → Wrote d to x d₁ e → Wrote d₁ e y d₂ f
+    → Wrote d to all d₂ f
 wrote-both d d₁ d₂ all x y to e f q h w v =
     let r = two-wrote d d₁ d₂ x y all to e f q h (w .ends) (w .is) (v .ends) (v .is) in record { ends = r .0; is = r .1 }

@@ -13,7 +13,8 @@ use Rattle.buffer.specs.Ascii.{ascii}
 use Rattle.config.specs.declared.Settings.{Settings}
 use Rattle.statistics.specs.declared.Statistics.{Statistics}
 use Rattle.resp3.specs.declared.Kind.the-variants.{BlobString}
-use Rattle.resp3.specs.Value.{Value, Values, blobString, simpleString, simpleError, number, null, double, boolean, blobError, verbatimString, bigNumber, array, map, set, attribute, push as pushValue, none, more, Means}
+use Rattle.resp3.specs.Value.{Value, Values, blobString, simpleString, simpleError, number, null, double, boolean, blobError, verbatimString}
+use Rattle.resp3.specs.Value.{bigNumber, array, map, set, attribute, push as pushValue, none, more, Means}
 use Rattle.resp3_element.specs.declared.Cursor.{Cursor}
 use Rattle.resp3_element.specs.declared.Elements.{Elements}
 use Rattle.resp3_element.specs.declared.Elements.the-variants.{Of, No}
@@ -129,7 +130,8 @@ module _ (p : Setup) (bk : Book) where
   key-dropped v e = rw e
 
   -- one element after the other
-  pub keys-more : (v : Value) (vs : Values) → afterCall p (push (keysOf (more v vs))) bk ≡ afterCall p (push (keysOf vs)) (afterCall p (push (keysOf (more v none))) bk)
+  pub keys-more : (v : Value) (vs : Values) → afterCall p (push (keysOf (more v vs))) bk
+      ≡ afterCall p (push (keysOf vs)) (afterCall p (push (keysOf (more v none))) bk)
   unfolding call-defs ons invalidations afterAll
   keys-more v vs = byTest (ofKind BlobString v) (λ e. rw e) (λ e. rw e)
 
@@ -259,7 +261,8 @@ module _ (p : Setup) (s : Bytes) (bk : Book) where
         go (more v vs) st = absurd (stands-none s c v vs st e)
 
     -- another first element
-    pub elements-other : (c .left ≡ 0 → ⊥) → ((v : Value) (vs : Values) → Stands s c (more v vs) → isInvalidate v ≡ false) → afterCall p (fromElements vs) bk ≡ bk
+    pub elements-other : (c .left ≡ 0 → ⊥) → ((v : Value) (vs : Values) → Stands s c (more v vs) → isInvalidate v ≡ false)
+        → afterCall p (fromElements vs) bk ≡ bk
     elements-other n f = go vs st
       where
         go : (vs : Values) → Stands s c vs → afterCall p (fromElements vs) bk ≡ bk
@@ -277,7 +280,8 @@ module _ (p : Setup) (s : Bytes) (bk : Book) where
           go (more v (more w vs)) st = absurd (stands-none s d w vs (moves v (more w vs) st) e)
 
       -- a value behind it decides
-      pub elements-by : (P : Book → Type 0) → (d .left ≡ 0 → ⊥) → ((v : Value) (vs : Values) → Stands s d (more v vs) → P (afterCall p (invalidating (arrayOf v) (isNull v)) bk))
+      pub elements-by : (P : Book → Type 0) → (d .left ≡ 0 → ⊥)
+          → ((v : Value) (vs : Values) → Stands s d (more v vs) → P (afterCall p (invalidating (arrayOf v) (isNull v)) bk))
           → P (afterCall p (fromElements vs) bk)
       elements-by P m by = go vs st
         where
@@ -285,9 +289,11 @@ module _ (p : Setup) (s : Bytes) (bk : Book) where
           go none st = absurd (stands-some s c st n)
           go (more v none) st = absurd (stands-some s d (moves v none st) m)
           go (more v (more w vs)) st =
-              subst P (sym (ap (λ (t : Bool). afterCall p (cond t (afterFirst (more w vs)) ignored) bk) (f v (more w vs) st))) (by w vs (moves v (more w vs) st))
+              subst P (sym (ap (λ (t : Bool). afterCall p (cond t (afterFirst (more w vs)) ignored) bk) (f v (more w vs) st)))
+              (by w vs (moves v (more w vs) st))
 
 -- it is `_`, and everything was dropped
-pub by-null : (g : Settings) (s u : Bytes) (d : Statistics) (bk : Book) (o : Option Values) (b : Bool) → Holds s No o → b ≡ true → Kept g u d (after (setupNow g) invalidateAll bk)
+pub by-null : (g : Settings) (s u : Bytes) (d : Statistics) (bk : Book) (o : Option Values) (b : Bool) → Holds s No o → b ≡ true
+    → Kept g u d (after (setupNow g) invalidateAll bk)
     → Kept g u d (afterCall (setupNow g) (invalidating o b) bk)
 by-null g s u d bk o b h e k = subst (Kept g u d) (sym (null-all (setupNow g) s bk o b h e)) k

@@ -42,8 +42,10 @@ exchange-turn s a b n k h l m =
     let s₁ : Bytes = put s a B in
     let l₁ : length s₁ ≡ length s = length-put s B a (omega arith) in
     let l₂ : length (put s₁ b A) ≡ length s = length-put s₁ A b (omega arith) ∙ l₁ in
-    let gx : getD (put s₁ b A) (a + k) 0 ≡ x = getD-put-before s₁ A b (a + k) 0 (omega arith) (omega arith) ∙ getD-put-after s B a (a + k) 0 (omega arith) (omega arith) in
-    let gy : getD (put s₁ b A) (b + k) 0 ≡ y = getD-put-after s₁ A b (b + k) 0 (omega arith) (omega arith) ∙ getD-put-after s B a (b + k) 0 (omega arith) (omega arith) in
+    let gx : getD (put s₁ b A) (a + k) 0 ≡ x = getD-put-before s₁ A b (a + k) 0 (omega arith) (omega arith)
+    ∙ getD-put-after s B a (a + k) 0 (omega arith) (omega arith) in
+    let gy : getD (put s₁ b A) (b + k) 0 ≡ y = getD-put-after s₁ A b (b + k) 0 (omega arith) (omega arith)
+    ∙ getD-put-after s B a (b + k) 0 (omega arith) (omega arith) in
     let s₂ : Bytes = put s a (B ++ (y ∷ [])) in
     let l₃ : length s₂ ≡ length s = length-put s (B ++ (y ∷ [])) a (simp length-append (omega arith)) in
     let first : set (put s₁ b A) (a + k) y ≡ put s₂ b A =
@@ -63,7 +65,8 @@ exchanged-at P X M Y Z a b n p x y m =
     let py : part ((P ++ (X ++ M)) ++ (Y ++ Z)) b n ≡ Y = part-at (P ++ (X ++ M)) Y Z b n (simp length-append (omega arith)) y in
     let t : put s a Y ≡ P ++ (Y ++ (M ++ (Y ++ Z))) = put-at P X (M ++ (Y ++ Z)) Y a p (omega arith) in
     let g : P ++ (Y ++ (M ++ (Y ++ Z))) ≡ (P ++ (Y ++ M)) ++ (Y ++ Z) = simp append-assoc in
-    let u : put ((P ++ (Y ++ M)) ++ (Y ++ Z)) b X ≡ (P ++ (Y ++ M)) ++ (X ++ Z) = put-at (P ++ (Y ++ M)) Y Z X b (simp length-append (omega arith)) (omega arith) in
+    let u : put ((P ++ (Y ++ M)) ++ (Y ++ Z)) b X ≡ (P ++ (Y ++ M))
+    ++ (X ++ Z) = put-at (P ++ (Y ++ M)) Y Z X b (simp length-append (omega arith)) (omega arith) in
     let r : (P ++ (Y ++ M)) ++ (X ++ Z) ≡ P ++ (Y ++ (M ++ (X ++ Z))) = simp append-assoc in
     cc
 

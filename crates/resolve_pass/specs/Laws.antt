@@ -61,8 +61,10 @@ pub tally-spent : (room r : Room) (n k : ℕ) → Tally room n r → Tally room 
 tally-spent room r n k h x =
     let e : n + (k + x) ≡ n + k + x = omega arith in
     byTest (leb k (r .left))
-    (λ t. let l = leb-true k (r .left) t in rw t (same-test (r .short) (r .left) l ∙ h (k + x) ∙ ap (λ (i : ℕ). cond (room .short) false (leb i (room .left))) e))
-    (λ t. let l = leb-false k (r .left) t in rw t (sym (no-room (r .short) (r .left) l) ∙ h (k + x) ∙ ap (λ (i : ℕ). cond (room .short) false (leb i (room .left))) e))
+    (λ t. let l = leb-true k (r .left) t in
+    rw t (same-test (r .short) (r .left) l ∙ h (k + x) ∙ ap (λ (i : ℕ). cond (room .short) false (leb i (room .left))) e))
+    (λ t. let l = leb-false k (r .left) t in
+    rw t (sym (no-room (r .short) (r .left) l) ∙ h (k + x) ∙ ap (λ (i : ℕ). cond (room .short) false (leb i (room .left))) e))
   where
     less : (left : ℕ) → k ≤ left → leb x (left - k) ≡ leb (k + x) left
     less left l =
@@ -89,7 +91,8 @@ module _ (p s : Bytes) (mode : CacheMode) (clock : ℕ) where
   pub dry-start : (room : Room) (c : Walk) (ns : List Node) (es rs : Values) → Starts p s c ns es rs → Dried (walk mode clock ns es rs) c room room
   dry-start room c ns es rs h = record { bs = []; ss = []; at = start p s mode clock c ns es rs h; tally = room-same room }
 
-  pub dry-step : (o : Walked) (c : Walk) (room r : Room) (t : Step) → c .at < length p → StepIs p s c mode clock t → isWrong (t .next) ≡ false → Dried o c room r
+  pub dry-step : (o : Walked) (c : Walk) (room r : Room) (t : Step) → c .at < length p → StepIs p s c mode clock t → isWrong (t .next) ≡ false
+      → Dried o c room r
       → Dried o (t .walk) room (spent r (nextSize (t .next)))
   dry-step o c room r t l f w d =
       let g = stepped p s mode clock o c (d .bs) (d .ss) t (d .at) l f in
@@ -103,7 +106,8 @@ module _ (p s : Bytes) (mode : CacheMode) (clock : ℕ) where
         tally = rw e (tally-spent room r (length (d .bs)) (nextSize (t .next)) (d .tally));
       }
 
-  pub dry-wrong : (o : Walked) (c : Walk) (room r : Room) (t : Step) → c .at < length p → StepIs p s c mode clock t → isWrong (t .next) ≡ true → Dried o c room r
+  pub dry-wrong : (o : Walked) (c : Walk) (room r : Room) (t : Step) → c .at < length p → StepIs p s c mode clock t → isWrong (t .next) ≡ true
+      → Dried o c room r
       → Wrong ≡ dryOf room o
   unfolding dryOf
   dry-wrong o c room r t l f w d = rw (stepped p s mode clock o c (d .bs) (d .ss) t (d .at) l f .wrong w)
@@ -141,7 +145,8 @@ module _ (p s : Bytes) (mode : CacheMode) (clock : ℕ) where
     pub right : isWrong (t .next) ≡ false
     pub fits : i + length (nextBytes p s (t .next)) ≤ length new
 
-  pub write-ready : (o : Walked) (c : Walk) (at i : ℕ) (old new : Bytes) (t : Step) → c .at < length p → StepIs p s c mode clock t → (w : Written o c at i old new)
+  pub write-ready : (o : Walked) (c : Walk) (at i : ℕ) (old new : Bytes) (t : Step) → c .at < length p → StepIs p s c mode clock t
+      → (w : Written o c at i old new)
       → Ready o c at i old new t w
   write-ready o c at i old new t l f w = go (isWrong (t .next)) refl
     where
@@ -152,7 +157,8 @@ module _ (p s : Bytes) (mode : CacheMode) (clock : ℕ) where
       go true e = absurd (fine-not at (length old) o (w .ss) (w .fine) (g .wrong e))
       go false e =
           let r = g .on e in
-          let k = room-for at (length old) o (w .bs ++ nextBytes p s (t .next)) (w .ss ++ nextStores p s (t .next)) (walk mode clock (r .rest .ns) (r .rest .es) (r .rest .rs)) (w .fine) (r .is) in
+          let k = room-for at (length old) o (w .bs ++ nextBytes p s (t .next)) (w .ss ++ nextStores p s (t .next))
+          (walk mode clock (r .rest .ns) (r .rest .es) (r .rest .rs)) (w .fine) (r .is) in
           let j = length-append (w .bs) (nextBytes p s (t .next)) in
           let h : length new ≡ length old = rw (w .bytes) (length-put old (w .bs) at (omega arith)) in
           record { step = g; right = e; fits = omega (arith, w .place) }
@@ -169,7 +175,8 @@ module _ (p s : Bytes) (mode : CacheMode) (clock : ℕ) where
       let q = r .step .on (r .right) in
       let a = length-append (w .bs) (nextBytes p s (t .next)) in
       let k : at + length (w .bs) ≤ length old =
-      room-for at (length old) o (w .bs) (w .ss) (walk mode clock (w .reached .rest .ns) (w .reached .rest .es) (w .reached .rest .rs)) (w .fine) (w .reached .is) in
+      room-for at (length old) o (w .bs) (w .ss) (walk mode clock (w .reached .rest .ns) (w .reached .rest .es) (w .reached .rest .rs)) (w .fine)
+      (w .reached .is) in
       record {
         bs = w .bs ++ nextBytes p s (t .next);
         ss = w .ss ++ nextStores p s (t .next);

@@ -57,7 +57,8 @@ module _ (p s : Bytes) (mode : CacheMode) (clock : ℕ) where
   unfolding nodeBytes
   longer nd r =
       rw (node-is nd)
-      (simp (length-append, length-le 4 (kindOf nd), length-le 4 (length (firstOf nd)), length-le 4 (length (secondOf nd)), length-le 8 (numberOf nd)) (omega arith))
+      (simp (length-append, length-le 4 (kindOf nd), length-le 4 (length (firstOf nd)), length-le 4 (length (secondOf nd)), length-le 8 (numberOf nd))
+      (omega arith))
 
   further : (a b : ℕ) (nd : Node) (r : Bytes) → a ≤ length p → b ≤ length p → drop a p ≡ encNode nd ++ r → drop b p ≡ r → a < b
   further a b nd r i j h g = let k = longer nd r in omega (arith, simp length-drop at (ap length h), simp length-drop at (ap length g))
@@ -66,7 +67,8 @@ module _ (p s : Bytes) (mode : CacheMode) (clock : ℕ) where
   both : {A : Type 0} (n : Next) → isWrong n ≡ true → isWrong n ≡ false → A
   both n h g = absurd (let y : true ≡ false = sym h ∙ g in let x : _≡_ {A = ℕ} 0 1 = cc in omega arith)
 
-  stepped-node : (o : Walked) (c : Walk) (bs : Bytes) (ss : List Storing) (r : Step) (nd : Node) (ns : List Node) (es rs : Values) → Starts p s c (nd ∷ ns) es rs
+  stepped-node : (o : Walked) (c : Walk) (bs : Bytes) (ss : List Storing) (r : Step) (nd : Node) (ns : List Node) (es rs : Values)
+      → Starts p s c (nd ∷ ns) es rs
       → o ≡ before bs ss (walk mode clock (nd ∷ ns) es rs) → StepIs p s c mode clock r → Stepped o c bs ss r
   unfolding walk
   stepped-node o c bs ss r nd ns es rs h e f = go (nodeMove mode clock nd es rs) (f nd ns es rs (h .bounds) (h .good .0) (h .at)) e
@@ -98,10 +100,12 @@ module _ (p s : Bytes) (mode : CacheMode) (clock : ℕ) where
             near = λ z. d .1 .here;
           }
 
-  pub stepped : (o : Walked) (c : Walk) (bs : Bytes) (ss : List Storing) (r : Step) → Reached o c bs ss → c .at < length p → StepIs p s c mode clock r → Stepped o c bs ss r
+  pub stepped : (o : Walked) (c : Walk) (bs : Bytes) (ss : List Storing) (r : Step) → Reached o c bs ss → c .at < length p → StepIs p s c mode clock r
+      → Stepped o c bs ss r
   stepped o c bs ss r h l f = go (h .rest .ns) (h .rest .starts) (h .is)
     where
-      go : (ns : List Node) → Starts p s c ns (h .rest .es) (h .rest .rs) → o ≡ before bs ss (walk mode clock ns (h .rest .es) (h .rest .rs)) → Stepped o c bs ss r
+      go : (ns : List Node) → Starts p s c ns (h .rest .es) (h .rest .rs) → o ≡ before bs ss (walk mode clock ns (h .rest .es) (h .rest .rs))
+          → Stepped o c bs ss r
       go [] k e = absurd (let z = ap length (k .at .nodes) in omega (arith, simp length-drop at z))
       go (nd ∷ ns) k e = stepped-node o c bs ss r nd ns (h .rest .es) (h .rest .rs) k e f
 
@@ -110,7 +114,8 @@ module _ (p s : Bytes) (mode : CacheMode) (clock : ℕ) where
   unfolding walk
   ended o c bs ss h l = go (h .rest .ns) (h .rest .starts) (h .is)
     where
-      go : (ns : List Node) → Starts p s c ns (h .rest .es) (h .rest .rs) → o ≡ before bs ss (walk mode clock ns (h .rest .es) (h .rest .rs)) → o ≡ through bs ss
+      go : (ns : List Node) → Starts p s c ns (h .rest .es) (h .rest .rs) → o ≡ before bs ss (walk mode clock ns (h .rest .es) (h .rest .rs))
+          → o ≡ through bs ss
       go [] k e = e ∙ rw (append-nil bs, append-nil ss)
       go (nd ∷ ns) k e =
           absurd (let z = longer nd (encAll encNode ns) in omega (arith, simp length-drop at (ap length (k .at .nodes))))

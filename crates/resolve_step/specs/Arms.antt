@@ -80,7 +80,8 @@ module _ (p s : Bytes) (b : Bounds p s) where
 
   -- ---- one missing key
 
-  pub single-short : (c : Walk) (clock : ℕ) (w : Missing) (es rs : Values) → Lists s c es rs → c .reply .left < 2 → Moved p s c (says Wrong c) (singleMove clock w es rs)
+  pub single-short : (c : Walk) (clock : ℕ) (w : Missing) (es rs : Values) → Lists s c es rs → c .reply .left < 2
+      → Moved p s c (says Wrong c) (singleMove clock w es rs)
   single-short c clock w es none h l = refl
   single-short c clock w es (more t none) h l = refl
   single-short c clock w es (more t (more v rs)) h l = absurd (omega (arith, h .replies .left))
@@ -111,7 +112,8 @@ module _ (p s : Bytes) (b : Bounds p s) where
   abbrev pub ArrayIs : Bytes → Elements → Type 0
   ArrayIs x r = (v : Value) → Means x v → Holds x r (arrayOf v)
 
-  pub several-no : (c : Walk) (n : ℕ) (x : Bytes) (es rs : Values) → Lists s c es rs → ReplyIs c x → ArrayIs x No → Moved p s c (says Wrong c) (severalMove n rs)
+  pub several-no : (c : Walk) (n : ℕ) (x : Bytes) (es rs : Values) → Lists s c es rs → ReplyIs c x → ArrayIs x No
+      → Moved p s c (says Wrong c) (severalMove n rs)
   several-no c n x es none h f g = refl
   several-no c n x es (more v rs) h f g = go (arrayOf v) (g v (f v rs (h .replies)))
     where
@@ -123,7 +125,8 @@ module _ (p s : Bytes) (b : Bounds p s) where
   abbrev pub inArray : Walk → Cursor → Cursor → Walk
   inArray c q first = record { at = c .at; reply = q; from = c .reply .at; to = c .reply .end; element = first }
 
-  pub several-of : (c : Walk) (n : ℕ) (x : Bytes) (first q : Cursor) (es rs : Values) → Lists s c es rs → ((c .reply .left ≡ 0) → ⊥) → ReplyIs c x → ArrayIs x (Of first)
+  pub several-of : (c : Walk) (n : ℕ) (x : Bytes) (first q : Cursor) (es rs : Values) → Lists s c es rs → ((c .reply .left ≡ 0) → ⊥) → ReplyIs c x
+      → ArrayIs x (Of first)
       → After s (c .reply) q → Moved p s c (says (Head n) (inArray c q first)) (severalMove n rs)
   several-of c n x first q es none h e f g a = some-left s (c .reply) (h .replies) e
   several-of c n x first q es (more v rs) h e f g a = go (arrayOf v) (g v (f v rs (h .replies)))
@@ -147,7 +150,8 @@ module _ (p s : Bytes) (b : Bounds p s) where
   -- ---- a place that waits
 
   -- an element of the array, as a part of the list
-  pub element-in : (c : Walk) (es rs : Values) (v : Value) (vs : Values) → Lists s c es rs → Stands (part s (c .from) (c .to - c .from)) (c .element) (more v vs)
+  pub element-in : (c : Walk) (es rs : Values) (v : Value) (vs : Values) → Lists s c es rs
+      → Stands (part s (c .from) (c .to - c .from)) (c .element) (more v vs)
       → Means (part s (c .from + c .element .at) (c .from + c .element .end - (c .from + c .element .at))) v
   element-in c es rs v vs h k =
       let A : Bytes = part s (c .from) (c .to - c .from) in
@@ -159,7 +163,8 @@ module _ (p s : Bytes) (b : Bounds p s) where
       part-part s (c .from) (c .to - c .from) (c .element .at) (c .element .end - c .element .at) (omega arith) in
       rw e (subst (λ (y : Bytes). Means y v) q (element-means A (c .element) v vs k))
 
-  pub waiting-element : (c : Walk) (clock : ℕ) (w : Missing) (es rs : Values) → Lists s c es rs → c .element .left ≡ 0 → Moved p s c (says (Plan 1 4) c) (waitingMove clock w es rs)
+  pub waiting-element : (c : Walk) (clock : ℕ) (w : Missing) (es rs : Values) → Lists s c es rs → c .element .left ≡ 0
+      → Moved p s c (says (Plan 1 4) c) (waitingMove clock w es rs)
   waiting-element c clock w none rs h e = (blank-says p s b, h, refl)
   waiting-element c clock w (more v es) rs h e = none-left (part s (c .from) (c .to - c .from)) (c .element) v es (h .elements) e
 
@@ -199,7 +204,8 @@ module _ (p s : Bytes) (b : Bounds p s) where
   ends-pttl c (more v es) none h e = (pass-says p s, over-lists c (more v es) none h, refl)
   ends-pttl c (more v es) (more t rs) h e = none-left s (c .reply) t rs (h .replies) e
 
-  pub ends-both : (c d : Walk) (q : Cursor) (es rs : Values) → Lists s c es rs → ((c .element .left ≡ 0) → ⊥) → ((c .reply .left ≡ 0) → ⊥) → After s (c .reply) q
+  pub ends-both : (c d : Walk) (q : Cursor) (es rs : Values) → Lists s c es rs → ((c .element .left ≡ 0) → ⊥) → ((c .reply .left ≡ 0) → ⊥)
+      → After s (c .reply) q
       → d ≡ withReply (over c) q → Moved p s c (says Pass d) (move nothing none (eaten es rs))
   ends-both c d q none rs h e i f g = some-left (part s (c .from) (c .to - c .from)) (c .element) (h .elements) e
   ends-both c d q (more v es) none h e i f g = some-left s (c .reply) (h .replies) i

@@ -24,7 +24,8 @@ use Rattle.resolve_step.specs.declared.Missed.{Missed}
 use Rattle.resolve_step.specs.declared.Step.{Step}
 use Rattle.resolve_step.specs.declared.Next.the-variants.{Plan, Head, Wrong}
 use Rattle.resolve_step.specs.declared.Readied.the-variants.{Go, Stop}
-use Rattle.resolve_step.specs.Steps.{Bounds, Lists, Placed, At, MissedIs, Moved, HandsOn, ReadyFor, Readies, TakesSingle, TakesSeveral, Waits, Ends, HeadFor, OnNode, OnMissing, Does, StepIs}
+use Rattle.resolve_step.specs.Steps.{Bounds, Lists, Placed, At, MissedIs, Moved, HandsOn, ReadyFor, Readies, TakesSingle, TakesSeveral, Waits}
+use Rattle.resolve_step.specs.Steps.{Ends, HeadFor, OnNode, OnMissing, Does, StepIs}
 use Rattle.resolve_step.specs.Says.{plan-says, head-says}
 use Rattle.resolve_step.specs.Arms.{says}
 
@@ -126,7 +127,8 @@ module _ (p s : Bytes) (b : Bounds p s) (c : Walk) (n : NodeHead) where
     abbrev pub Late : Type 0
     Late = ((n .kind ≡ 0) → ⊥) × ((n .kind ≡ 1) → ⊥) × ((n .kind ≡ 2) → ⊥) × ((n .kind ≡ 5) → ⊥) × ((n .kind ≡ 6) → ⊥)
 
-    pub on-missing : Late → OnMissing s c n mode clock r → (nd : Node) (es rs : Values) → HeadFor p n nd → Lists s c es rs → Moved p s c r (nodeMove mode clock nd es rs)
+    pub on-missing : Late → OnMissing s c n mode clock r → (nd : Node) (es rs : Values) → HeadFor p n nd → Lists s c es rs
+        → Moved p s c r (nodeMove mode clock nd es rs)
     unfolding node-defs
     on-missing k f handOn es rs h l = no-kind _ _ (h .kind) (k .0)
     on-missing k f (servedValue v) es rs h l = no-kind _ _ (h .kind) (k .1)
@@ -223,11 +225,14 @@ head-in p s c nd ns es rs g h = node-law p (c .at) nd (encAll encNode ns) (recor
 abbrev pub behindNode : Walk → NodeHead → Walk
 behindNode c n = record { at = n .end; reply = c .reply; from = c .from; to = c .to; element = c .element }
 
-pub step-law : (p s : Bytes) (c : Walk) (n : NodeHead) (mode : CacheMode) (clock : ℕ) (r : Step) → n ≡ headAt p (c .at) → OnNode s (behindNode c n) n mode clock r
+pub step-law : (p s : Bytes) (c : Walk) (n : NodeHead) (mode : CacheMode) (clock : ℕ) (r : Step) → n ≡ headAt p (c .at)
+    → OnNode s (behindNode c n) n mode clock r
     → StepIs p s c mode clock r
 unfolding headOf
 step-law p s c n mode clock r e f nd ns es rs b g h =
-    go (nodeMove mode clock nd es rs) (f p nd es rs b (rw (sym e) at (head-for p s c nd ns es rs g h)) (record { replies = h .lists .replies; order = h .lists .order; within = h .lists .within; elements = h .lists .elements }))
+    go (nodeMove mode clock nd es rs)
+    (f p nd es rs b (rw (sym e) at (head-for p s c nd ns es rs g h))
+    (record { replies = h .lists .replies; order = h .lists .order; within = h .lists .within; elements = h .lists .elements }))
   where
     ends : n .end ≡ c .at + 20 + length (firstOf nd) + length (secondOf nd)
     ends = ap (λ (k : NodeHead). k .end) (e ∙ node-law p (c .at) nd (encAll encNode ns) (record { good = g; is = h .nodes }) .head)

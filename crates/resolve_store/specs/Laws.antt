@@ -11,7 +11,8 @@ use Rattle.config.specs.declared.Settings.{Settings}
 use Rattle.resp3.specs.Value.{Values}
 use Rattle.resp3.specs.Ends.{isValue}
 use Rattle.resp3.specs.Law.{value-law}
-use Rattle.book.specs.Book.{Setup, Row, Book, Answer, hit, miss, stored, noSpace, invalidated, number, store, on, effect, plus, after, answerTo, afterAll, answers}
+use Rattle.book.specs.Book.{Setup, Row, Book, Answer, hit, miss, stored, noSpace, invalidated, number, store, on, effect, plus, after, answerTo}
+use Rattle.book.specs.Book.{afterAll, answers}
 use Rattle.book.specs.Calls.{Storing, stores, ons, refusals}
 use Rattle.planning.specs.Plan.{Node}
 use Rattle.sharded_lru.specs.Lent.{setupNow, Lent, Arena, effectIn, rowsAfter}
@@ -39,13 +40,15 @@ refusals-first invalidated said = omega arith
 refusals-first (number n) said = omega arith
 
 module _ (p : Setup) (e : ℕ) where
-  after-append : (ss later : List Storing) (bk : Book) → afterAll p (ons (stores e (ss ++ later))) bk ≡ afterAll p (ons (stores e later)) (afterAll p (ons (stores e ss)) bk)
+  after-append : (ss later : List Storing) (bk : Book)
+      → afterAll p (ons (stores e (ss ++ later))) bk ≡ afterAll p (ons (stores e later)) (afterAll p (ons (stores e ss)) bk)
   unfolding afterAll ons stores
   after-append [] later bk = refl
   after-append (t ∷ ss) later bk = after-append ss later (after p (on (store (t .key) (t .command) (t .value) (t .expiry) e)) bk)
 
   refusals-append : (ss later : List Storing) (bk : Book)
-      → refusals (answers p (ons (stores e (ss ++ later))) bk) ≡ refusals (answers p (ons (stores e ss)) bk) + refusals (answers p (ons (stores e later)) (afterAll p (ons (stores e ss)) bk))
+      → refusals (answers p (ons (stores e (ss ++ later))) bk)
+      ≡ refusals (answers p (ons (stores e ss)) bk) + refusals (answers p (ons (stores e later)) (afterAll p (ons (stores e ss)) bk))
   unfolding afterAll answers ons stores
   refusals-append [] later bk = unfold refusals in omega arith
   refusals-append (t ∷ ss) later bk =
@@ -124,7 +127,8 @@ module _ (g : Settings) (e : ℕ) where
     pub keep-start : (old : Bytes) (c : Walk) (ns : List Node) (es rs : Values) → Starts p s c ns es rs → Kept (walk mode clock ns es rs) c old old 0
     keep-start old c ns es rs h = record { bs = []; ss = []; reached = start p s mode clock c ns es rs h; stores = stores-none old; few = omega arith }
 
-    pub keep-step : (o : Walked) (c : Walk) (old new then : Bytes) (n m : ℕ) (t : Step) → c .at < length p → StepIs p s c mode clock t → isWrong (t .next) ≡ false
+    pub keep-step : (o : Walked) (c : Walk) (old new then : Bytes) (n m : ℕ) (t : Step) → c .at < length p → StepIs p s c mode clock t
+        → isWrong (t .next) ≡ false
         → Stores g e (nextStores p s (t .next)) new then m → m ≤ 1 → Kept o c old new n → Kept o (t .walk) old then (n + m)
     keep-step o c old new then n m t l f w h i k =
         let z = stepped p s mode clock o c (k .bs) (k .ss) t (k .reached) l f in

@@ -20,14 +20,16 @@ use Rattle.planning.specs.Plan.{Node}
 use Rattle.resolving.specs.Plan.{Missing, Place, served, waiting, Command, handedOn, cached, cachedArray, single, multiple, Plan}
 use Rattle.resolving.specs.Convert.{repliesOf}
 use Rattle.resolving.specs.Store.{storeOf}
-use Rattle.resolving.specs.Resolve.{Outcome, wrong, gives, takeReply, optIn, takeSingle, Filled, placed, fill, fillFrom, takeMultiple, takeCommand, Resolved, cause7, answered, behind, goOn, takeCommands, fromReplies, resolve}
+use Rattle.resolving.specs.Resolve.{Outcome, wrong, gives, takeReply, optIn, takeSingle, Filled, placed, fill, fillFrom, takeMultiple, takeCommand}
+use Rattle.resolving.specs.Resolve.{Resolved, cause7, answered, behind, goOn, takeCommands, fromReplies, resolve}
 use Rattle.resolving.specs.Result.{resultBytes}
 use Rattle.resolving.specs.ResultLaws.{as-many}
 use Rattle.planning.specs.Plan as nodes
 use Rattle.planning.specs.Rules.{GoodPlan}
 use Rattle.plan_commands.specs.Commands.{commandsOf, planRead}
 use Rattle.plan_commands.specs.Laws.{valueNodes, placeNodes, commandNodes, plan-read}
-use Rattle.resolve_walk.specs.Walk.{Move, fetched, opted, handMove, singleMove, arrayMove, severalMove, nodeMove, bytesOf, storesOf, Walked, stopped, through, before, moveThen, walk}
+use Rattle.resolve_walk.specs.Walk.{Move, fetched, opted, handMove, singleMove, arrayMove, severalMove, nodeMove, bytesOf, storesOf, Walked}
+use Rattle.resolve_walk.specs.Walk.{stopped, through, before, moveThen, walk}
 
 -- ---- bytes and stores in turn
 
@@ -114,7 +116,8 @@ module _ (mode : CacheMode) (clock : ℕ) where
   hand-move none f = refl
   hand-move (more v rs) f = refl
 
-  single-move : (m : Missing) (f : Values → Values → Walked) (rs : Values) → moveThen (singleMove clock m none rs) f ≡ commandThen (takeSingle clock m rs) (λ q. f none q)
+  single-move : (m : Missing) (f : Values → Values → Walked) (rs : Values)
+      → moveThen (singleMove clock m none rs) f ≡ commandThen (takeSingle clock m rs) (λ q. f none q)
   single-move m f none = refl
   single-move m f (more t none) = refl
   single-move m f (more t (more v rs)) =
@@ -122,7 +125,8 @@ module _ (mode : CacheMode) (clock : ℕ) where
 
   -- several keys, by whether the reply is an array
   array-move : (ps : List Place) (ns : List Node) (o : Option Values) (rs : Values)
-      → moveThen (arrayMove (length ps) o rs) (λ es q. walk mode clock (placeNodes ps ns) es q) ≡ commandThen (fillFrom clock ps o rs) (λ q. walk mode clock ns none q)
+      → moveThen (arrayMove (length ps) o rs) (λ es q. walk mode clock (placeNodes ps ns) es q)
+      ≡ commandThen (fillFrom clock ps o rs) (λ q. walk mode clock ns none q)
   unfolding bytesOf storesOf
   array-move ps ns option.none rs = refl
   array-move ps ns (some es) rs =
@@ -133,7 +137,8 @@ module _ (mode : CacheMode) (clock : ℕ) where
       (ap (λ (n : ℕ). head 42 n ++ encs (f .places) []) (sym (fill-count clock ps es rs)) ∙ sym (array-pieces (f .places)))
 
   several-move : (ps : List Place) (ns : List Node) (rs : Values)
-      → moveThen (severalMove (length ps) rs) (λ es q. walk mode clock (placeNodes ps ns) es q) ≡ commandThen (takeMultiple clock ps rs) (λ q. walk mode clock ns none q)
+      → moveThen (severalMove (length ps) rs) (λ es q. walk mode clock (placeNodes ps ns) es q)
+      ≡ commandThen (takeMultiple clock ps rs) (λ q. walk mode clock ns none q)
   several-move ps ns none = refl
   several-move ps ns (more v rs) = array-move ps ns (arrayOf v) rs
 

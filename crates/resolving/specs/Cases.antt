@@ -76,12 +76,14 @@ unfolding resolve
 pttl-0 = refl
 
 -- P PTTL -1: 500
-pub pttl-minus-1 : resolve (plan (single (missing "a") ∷ [])) All 10 (list (minusOne ∷ text "u" ∷ [])) ≡ answered (row (text "u" ∷ [])) (stored "a" (text "u") 500 ∷ [])
+pub pttl-minus-1 : resolve (plan (single (missing "a") ∷ [])) All 10 (list (minusOne ∷ text "u" ∷ []))
+    ≡ answered (row (text "u" ∷ [])) (stored "a" (text "u") 500 ∷ [])
 unfolding resolve
 pttl-minus-1 = refl
 
 -- a later PTTL leaves the client expiry
-pub pttl-late : resolve (plan (single (missing "a") ∷ [])) All 10 (list (int 491 ∷ text "u" ∷ [])) ≡ answered (row (text "u" ∷ [])) (stored "a" (text "u") 500 ∷ [])
+pub pttl-late : resolve (plan (single (missing "a") ∷ [])) All 10 (list (int 491 ∷ text "u" ∷ []))
+    ≡ answered (row (text "u" ∷ [])) (stored "a" (text "u") 500 ∷ [])
 unfolding resolve
 pttl-late = refl
 
@@ -92,7 +94,8 @@ unfolding resolve
 pttl-no-integer = refl
 
 -- a sum past 64 bits counts as the larger: the largest clock and the smallest PTTL above 0, the largest client expiry
-pub pttl-past-64 : resolve (plan (single (record { key = ascii "a"; command = ascii "GET"; expiry = 2 ^ 64 - 1 }) ∷ [])) All (2 ^ 64 - 1) (list (int 1 ∷ text "u" ∷ []))
+pub pttl-past-64 : resolve (plan (single (record { key = ascii "a"; command = ascii "GET"; expiry = 2 ^ 64 - 1 }) ∷ [])) All (2 ^ 64 - 1)
+    (list (int 1 ∷ text "u" ∷ []))
     ≡ answered (row (text "u" ∷ [])) (stored "a" (text "u") (2 ^ 64 - 1) ∷ [])
 unfolding resolve
 pttl-past-64 = refl
@@ -100,7 +103,8 @@ pttl-past-64 = refl
 -- ---- several keys
 
 -- P for two keys that wait, an array of three uses up three PTTLs
-pub three-taken : fill 10 (waiting (missing "a") ∷ waiting (missing "b") ∷ []) (row (text "u" ∷ text "w" ∷ text "x" ∷ [])) (row (int 1 ∷ int 2 ∷ int 3 ∷ int 4 ∷ []))
+pub three-taken : fill 10 (waiting (missing "a") ∷ waiting (missing "b") ∷ []) (row (text "u" ∷ text "w" ∷ text "x" ∷ []))
+    (row (int 1 ∷ int 2 ∷ int 3 ∷ int 4 ∷ []))
     ≡ record { places = row (text "u" ∷ text "w" ∷ []); stores = stored "a" (text "u") 11 ∷ stored "b" (text "w") 12 ∷ []; rest = row (int 4 ∷ []) }
 three-taken = refl
 
@@ -126,13 +130,15 @@ unfolding resolve
 third-null = refl
 
 -- an element whose PTTL is absent is neither stored nor handed out
-pub pttl-absent : resolve (plan (multiple (waiting (missing "a") ∷ waiting (missing "b") ∷ []) ∷ [])) All 10 (list (list (text "u" ∷ text "w" ∷ []) ∷ int 1 ∷ []))
+pub pttl-absent : resolve (plan (multiple (waiting (missing "a") ∷ waiting (missing "b") ∷ []) ∷ [])) All 10
+    (list (list (text "u" ∷ text "w" ∷ []) ∷ int 1 ∷ []))
     ≡ answered (row (list (text "u" ∷ null ∷ []) ∷ [])) (stored "a" (text "u") 11 ∷ [])
 unfolding resolve
 pttl-absent = refl
 
 -- an empty array takes no PTTL
-pub empty-array : resolve (plan (multiple (waiting (missing "a") ∷ []) ∷ handedOn ∷ [])) All 10 (list (list [] ∷ int 1 ∷ [])) ≡ answered (row (list (null ∷ []) ∷ int 1 ∷ [])) []
+pub empty-array : resolve (plan (multiple (waiting (missing "a") ∷ []) ∷ handedOn ∷ [])) All 10 (list (list [] ∷ int 1 ∷ []))
+    ≡ answered (row (list (null ∷ []) ∷ int 1 ∷ [])) []
 unfolding resolve
 empty-array = refl
 
@@ -152,7 +158,8 @@ unfolding resolve
 error-passed = refl
 
 -- one among the elements is handed out in its place and takes its PTTL
-pub error-element : resolve (plan (multiple (waiting (missing "a") ∷ waiting (missing "b") ∷ []) ∷ [])) All 10 (list (list (error ∷ text "w" ∷ []) ∷ int 1 ∷ int 2 ∷ []))
+pub error-element : resolve (plan (multiple (waiting (missing "a") ∷ waiting (missing "b") ∷ []) ∷ [])) All 10
+    (list (list (error ∷ text "w" ∷ []) ∷ int 1 ∷ int 2 ∷ []))
     ≡ answered (row (list (error ∷ text "w" ∷ []) ∷ [])) (stored "b" (text "w") 12 ∷ [])
 unfolding resolve
 error-element = refl
@@ -164,7 +171,8 @@ unfolding resolve
 error-marked = refl
 
 -- an error as PTTL: the client expiry
-pub error-pttl : resolve (plan (single (missing "a") ∷ [])) All 10 (list (error ∷ text "u" ∷ [])) ≡ answered (row (text "u" ∷ [])) (stored "a" (text "u") 500 ∷ [])
+pub error-pttl : resolve (plan (single (missing "a") ∷ [])) All 10 (list (error ∷ text "u" ∷ []))
+    ≡ answered (row (text "u" ∷ [])) (stored "a" (text "u") 500 ∷ [])
 unfolding resolve
 error-pttl = refl
 
@@ -178,7 +186,8 @@ unfolding resolve
 opt-in-drops = refl
 
 -- whatever it is; and it must exist
-pub opt-in-any : resolve (plan (single (missing "a") ∷ [])) OptIn 10 (list (error ∷ int 1 ∷ text "u" ∷ [])) ≡ answered (row (text "u" ∷ [])) (stored "a" (text "u") 11 ∷ [])
+pub opt-in-any : resolve (plan (single (missing "a") ∷ [])) OptIn 10 (list (error ∷ int 1 ∷ text "u" ∷ []))
+    ≡ answered (row (text "u" ∷ [])) (stored "a" (text "u") 11 ∷ [])
 unfolding resolve
 opt-in-any = refl
 
@@ -281,6 +290,7 @@ unfolding resolve
 book-told = refl
 
 -- where 7 refuses the call, the stores that 7 leaves
-pub book-told-seven : callOf 3 (resolve (plan (single (missing "a") ∷ handedOn ∷ [])) All 10 (list (int 1 ∷ text "u" ∷ []))) ≡ resolving7 3 (stored "a" (text "u") 11 ∷ [])
+pub book-told-seven : callOf 3 (resolve (plan (single (missing "a") ∷ handedOn ∷ [])) All 10 (list (int 1 ∷ text "u" ∷ [])))
+    ≡ resolving7 3 (stored "a" (text "u") 11 ∷ [])
 unfolding resolve
 book-told-seven = refl

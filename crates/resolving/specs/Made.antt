@@ -11,13 +11,15 @@ use mathlib.Core.Bool.{Bool, true, false}
 use Rattle.buffer.specs.Cases.{byTest}
 use Rattle.config.specs.declared.CacheMode.{CacheMode}
 use Rattle.config.specs.declared.CacheMode.the-variants.{All, OptIn}
-use Rattle.resp3.specs.Value.{Value, Values, blobString, simpleString, simpleError, number, null, double, boolean, blobError, verbatimString, bigNumber, array, map, set, attribute, push, none, more, encode}
+use Rattle.resp3.specs.Value.{Value, Values, blobString, simpleString, simpleError, number, null, double, boolean, blobError, verbatimString}
+use Rattle.resp3.specs.Value.{bigNumber, array, map, set, attribute, push, none, more, encode}
 use Rattle.resp3_element.specs.Meaning.{isError, integerOf, arrayOf}
 use Rattle.book.specs.Calls.{Storing}
 use Rattle.resolving.specs.Plan.{Missing, Place, served, waiting, Command, handedOn, cached, cachedArray, single, multiple, Plan}
 use Rattle.resolving.specs.Convert.{onlyList, thenOnlyList, repliesOf}
 use Rattle.resolving.specs.Store.{storeOf}
-use Rattle.resolving.specs.Resolve.{Outcome, wrong, gives, takeReply, optIn, takeSingle, Filled, placed, eaten, fill, fillFrom, takeMultiple, takeCommand, Resolved, cause7, answered, behind, goOn, takeCommands, fromReplies, resolve}
+use Rattle.resolving.specs.Resolve.{Outcome, wrong, gives, takeReply, optIn, takeSingle, Filled, placed, eaten, fill, fillFrom, takeMultiple}
+use Rattle.resolving.specs.Resolve.{takeCommand, Resolved, cause7, answered, behind, goOn, takeCommands, fromReplies, resolve}
 use Rattle.resolving.specs.Expiry.{not-later}
 use Rattle.resolving.specs.Cases.{left-over}
 
@@ -87,8 +89,20 @@ module _ (P : Value → Type 0) (Q : Missing → Type 0) (R : Value → Type 0) 
   made-store : (clock : ℕ) (m : Missing) (pttl v : Value) → Q m → P v → AllMade (storeOf clock m pttl v)
   made-store clock m pttl v q g =
       byTest (isError v) (λ e. rw e tt)
-      (λ e. rw e
-      (record { missing = m; asked = q; reply = v; given = g; key = refl; command = refl; value = refl; expiry = not-later clock (m .expiry) (integerOf pttl) }, tt))
+      (λ e. rw e (
+        record {
+          missing = m;
+          asked = q;
+          reply = v;
+          given = g;
+          key = refl;
+          command = refl;
+          value = refl;
+          expiry = not-later clock (m .expiry)
+              (integerOf pttl);
+        },
+        tt,
+      ))
 
   -- ---- lists
 
@@ -162,10 +176,12 @@ module _ (P : Value → Type 0) (Q : Missing → Type 0) (R : Value → Type 0) 
   fill-has h clock (waiting m ∷ ps) (more w vs) none p v g =
       placed-has null [] (fill clock ps (more w vs) none) (h .unfilled) tt (fill-has h clock ps (more w vs) none (p .1) v tt)
   fill-has h clock (waiting m ∷ ps) (more w vs) (more t rs) p v g =
-      placed-has w (storeOf clock m t w) (fill clock ps vs rs) (h .hands w (v .0)) (made-store clock m t w (p .0) (v .0)) (fill-has h clock ps vs rs (p .1) (v .1) (g .1))
+      placed-has w (storeOf clock m t w) (fill clock ps vs rs) (h .hands w (v .0)) (made-store clock m t w (p .0) (v .0))
+      (fill-has h clock ps vs rs (p .1) (v .1) (g .1))
 
   -- the same, where the reply is an array
-  from-has : Closed → (clock : ℕ) (ps : List Place) (o : Option Values) (rs : Values) → PlacesHave ps → ListHas o → Every P rs → OutcomeHas (fillFrom clock ps o rs)
+  from-has : Closed → (clock : ℕ) (ps : List Place) (o : Option Values) (rs : Values) → PlacesHave ps → ListHas o → Every P rs
+      → OutcomeHas (fillFrom clock ps o rs)
   from-has h clock ps option.none rs p v g = tt
   from-has h clock ps (some vs) rs p v g =
       let f = fill-has h clock ps vs rs p v g in (h .lists (fill clock ps vs rs .places) (f .places), (f .stores, f .rest))
@@ -182,7 +198,8 @@ module _ (P : Value → Type 0) (Q : Missing → Type 0) (R : Value → Type 0) 
   single-has h clock m (more t (more v rs)) q g = (h .hands v (g .1 .0), (made-store clock m t v q (g .1 .0), g .1 .1))
 
   -- opt-in
-  opt-in-has : (mode : CacheMode) (rs : Values) (take : Values → Outcome) → ((q : Values) → Every P q → OutcomeHas (take q)) → Every P rs → OutcomeHas (optIn mode rs take)
+  opt-in-has : (mode : CacheMode) (rs : Values) (take : Values → Outcome) → ((q : Values) → Every P q → OutcomeHas (take q)) → Every P rs
+      → OutcomeHas (optIn mode rs take)
   opt-in-has All rs take f g = f rs g
   opt-in-has OptIn none take f g = tt
   opt-in-has OptIn (more v rs) take f g = f rs (g .1)
@@ -213,13 +230,16 @@ module _ (P : Value → Type 0) (Q : Missing → Type 0) (R : Value → Type 0) 
   go-on-has (gives v ss rs) next g f = behind-has v ss (next rs) (g .0) (g .1 .0) (f rs (g .1 .1))
 
   -- all commands
-  commands-have : Closed → (mode : CacheMode) (clock : ℕ) (cs : List Command) (rs : Values) → CommandsHave cs → Every P rs → ResolvedHas (takeCommands mode clock cs rs)
+  commands-have : Closed → (mode : CacheMode) (clock : ℕ) (cs : List Command) (rs : Values) → CommandsHave cs → Every P rs
+      → ResolvedHas (takeCommands mode clock cs rs)
   commands-have h mode clock [] rs p g = (tt, tt)
   commands-have h mode clock (c ∷ cs) rs p g =
-      go-on-has (takeCommand mode clock c rs) (λ q. takeCommands mode clock cs q) (command-has h mode clock c rs (p .0) g) (λ q k. commands-have h mode clock cs q (p .1) k)
+      go-on-has (takeCommand mode clock c rs) (λ q. takeCommands mode clock cs q) (command-has h mode clock c rs (p .0) g)
+      (λ q k. commands-have h mode clock cs q (p .1) k)
 
   -- where there is a list of replies
-  from-replies-has : (o : Option Values) (take : Values → Resolved) → ListHas o → ((q : Values) → Every P q → ResolvedHas (take q)) → ResolvedHas (fromReplies o take)
+  from-replies-has : (o : Option Values) (take : Values → Resolved) → ListHas o → ((q : Values) → Every P q → ResolvedHas (take q))
+      → ResolvedHas (fromReplies o take)
   from-replies-has option.none take g f = tt
   from-replies-has (some rs) take g f = f rs g
 

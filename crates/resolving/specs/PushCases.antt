@@ -13,7 +13,8 @@ abbrev pub pushing : List Value → Value
 pushing vs = pushOfValues (row vs)
 
 -- an array: its blob keys in order, twice where they stand twice, an empty one too; other kinds are skipped
-pub keys-pushed : pushed (pushing (text "invalidate" ∷ list (text "b" ∷ int 7 ∷ text "a" ∷ simpleString (ascii "a") ∷ null ∷ marked (text "c") ∷ text "" ∷ text "b" ∷ []) ∷ []))
+pub keys-pushed : pushed
+    (pushing (text "invalidate" ∷ list (text "b" ∷ int 7 ∷ text "a" ∷ simpleString (ascii "a") ∷ null ∷ marked (text "c") ∷ text "" ∷ text "b" ∷ []) ∷ []))
     ≡ push (ascii "b" ∷ ascii "a" ∷ ascii "" ∷ ascii "b" ∷ [])
 unfolding pushed same
 keys-pushed = refl

@@ -18,11 +18,14 @@ use Rattle.book.specs.Calls.{Storing}
 use Rattle.resolving.specs.Plan.{Missing, Place, served, waiting, Command, handedOn, cached, cachedArray, single, multiple, Plan}
 use Rattle.resolving.specs.Convert.{repliesOf}
 use Rattle.resolving.specs.Store.{expiryOf, storeOf}
-use Rattle.resolving.specs.Resolve.{Outcome, wrong, gives, takeReply, optIn, takeSingle, Filled, fill, fillFrom, takeMultiple, takeCommand, Resolved, cause7, answered, behind, goOn, takeCommands, fromReplies, resolve}
+use Rattle.resolving.specs.Resolve.{Outcome, wrong, gives, takeReply, optIn, takeSingle, Filled, fill, fillFrom, takeMultiple, takeCommand}
+use Rattle.resolving.specs.Resolve.{Resolved, cause7, answered, behind, goOn, takeCommands, fromReplies, resolve}
 use Rattle.resolving.specs.Result.{resultOf}
 use Rattle.resolving.specs.Cases.{left-over}
 use Rattle.resolving.specs.Vec.{joined, pushBack, joined-none, joined-push, count-push, set-joined}
-use Rattle.resolving.specs.Rust.{expireTime, insertUnlessError, Out, err, ok, attempt, nextReply, resolveSingle, responseOf, partsOf, zipLoop, ifArray, resolveMultiple, afterSkip, arm, Returned, failed, returned, finish, commandLoop, fromValue, resolveRust}
+use Rattle.resolving.specs.Rust.{expireTime, insertUnlessError, Out, err, ok, attempt, nextReply, resolveSingle, responseOf, partsOf, zipLoop}
+use Rattle.resolving.specs.Rust.{ifArray, resolveMultiple, afterSkip, arm, Returned, failed, returned, finish, commandLoop, fromValue}
+use Rattle.resolving.specs.Rust.{resolveRust}
 
 -- ---- a store
 
@@ -72,7 +75,14 @@ zip-same now (served w ∷ ps) (more v vs) (more t rs) before lru =
     rw (joined-push before w (responseOf ps), ← count-push before w, joined-push before w (fill now ps (more v vs) (more t rs) .places))
     (zip-same now ps (more v vs) (more t rs) (pushBack before w) lru)
 zip-same now (waiting m ∷ ps) (more v vs) (more t rs) before lru =
-    rw (set-joined before null v (responseOf ps), ← count-push before v, joined-push before v (fill now ps vs rs .places), insert-same now m v t lru, ← append-assoc lru (storeOf now m t v) (fill now ps vs rs .stores))
+    rw (
+      set-joined before null v (responseOf ps),
+      ← count-push before v,
+      joined-push before v
+          (fill now ps vs rs .places),
+      insert-same now m v t lru,
+      ← append-assoc lru (storeOf now m t v) (fill now ps vs rs .stores),
+    )
     (zip-same now ps vs rs (pushBack before v) (lru ++ storeOf now m t v))
 
 -- the same from the first place on, where the reply is an array

@@ -16,14 +16,19 @@ use Rattle.decimal.specs.NumLaw.{num-law, crlf-law, head-ge}
 use Rattle.buffer.specs.Places.{after, first, getD-drop0}
 use Rattle.decimal.specs.declared.Num.the-variants.{Val}
 use Rattle.resp3.specs.declared.Kind.{Kind}
-use Rattle.resp3.specs.declared.Kind.the-variants.{BlobString, SimpleString, SimpleError, Number, Null, Double, Boolean, BlobError, VerbatimString, BigNumber, Array, Map, Set, Attribute, Push}
+use Rattle.resp3.specs.declared.Kind.the-variants.{BlobString, SimpleString, SimpleError, Number, Null, Double, Boolean, BlobError}
+use Rattle.resp3.specs.declared.Kind.the-variants.{VerbatimString, BigNumber, Array, Map, Set, Attribute, Push}
 use Rattle.resp3.specs.declared.Shape.the-variants.{List as ListS, Pairs as PairsS, PairsAndValue}
 use Rattle.resp3.specs.declared.End.{End}
 use Rattle.resp3.specs.declared.End.the-variants.{At}
 use Rattle.resp3.specs.Kinds.{byteOf, shapeOf, kindOf}
 use Rattle.resp3.specs.KindLaws.{kind-byte}
-use Rattle.resp3.specs.Value.{Value, Values, Pairs, blobString, simpleString, simpleError, number, null, double, boolean, blobError, verbatimString, bigNumber, array, map, set, attribute, push, none, more, count, countPairs, below, deepest, deepestPairs, depth, plainB, oneLine, Fits64, Valid, Valids, ValidPairs, crlf, counted, framed, integer, enc, encs, encPairs}
-use Rattle.resp3.specs.Ends.{lengthAt, crlfEnd, plain, lineEnd, blobEnd, verbatimEnd, numberEnd, booleanEnd, countOf, bodyHead, headAt, headThen, valueEnd, itemsEnd}
+use Rattle.resp3.specs.Value.{Value, Values, Pairs, blobString, simpleString, simpleError, number, null, double, boolean, blobError}
+use Rattle.resp3.specs.Value.{verbatimString, bigNumber, array, map, set, attribute, push, none, more, count, countPairs, below, deepest}
+use Rattle.resp3.specs.Value.{deepestPairs, depth, plainB, oneLine, Fits64, Valid, Valids, ValidPairs, crlf, counted, framed, integer, enc}
+use Rattle.resp3.specs.Value.{encs, encPairs}
+use Rattle.resp3.specs.Ends.{lengthAt, crlfEnd, plain, lineEnd, blobEnd, verbatimEnd, numberEnd, booleanEnd, countOf, bodyHead, headAt}
+use Rattle.resp3.specs.Ends.{headThen, valueEnd, itemsEnd}
 use Rattle.resp3.specs.Paths as paths
 use Rattle.resp3.specs.Rows.{room, roomPairs, headOf, flat, flat-enc, flat-count, flat-valid, flat-deep, pairUp, skip, pairs-flat, skip-flat}
 use Rattle.resp3.specs.Decode.{bytesAt, lineAt, integerAt, flagAt, valuesAt, pairsAt, attributeAt, bodyOf, iterOf, valueOf, valuesOf}
@@ -142,7 +147,8 @@ snoc : (f xs : Bytes) → (f ++ (58 ∷ [])) ++ xs ≡ f ++ (58 ∷ xs)
 snoc f xs = append-assoc f (58 ∷ []) xs
 
 -- a format, a colon, a text
-verbatim-got : (s : Bytes) (p : ℕ) (f xs r : Bytes) → length f ≡ 3 → drop p s ≡ framed (f ++ (58 ∷ xs)) r → Got s r (verbatimString f xs) (verbatimEnd s p) (verbatimString (take 3 (bytesAt s p)) (drop 4 (bytesAt s p)))
+verbatim-got : (s : Bytes) (p : ℕ) (f xs r : Bytes) → length f ≡ 3 → drop p s ≡ framed (f ++ (58 ∷ xs)) r
+    → Got s r (verbatimString f xs) (verbatimEnd s p) (verbatimString (take 3 (bytesAt s p)) (drop 4 (bytesAt s p)))
 unfolding lengthAt
 verbatim-got s p f xs r k h =
     let b : Bytes = f ++ (58 ∷ xs) in
@@ -167,36 +173,43 @@ unfolding valuesOf iterOf
 one-more d s n at e v h g = rw (g, h)
 
 -- a row, by the law for one
-items-got : (d : ℕ) (s : Bytes) → OneLaw d s → (vs : Values) → Valids vs → deepest vs ≤ d → (at : ℕ) (r : Bytes) → at ≤ length s → drop at s ≡ encs vs r → Got s r vs (itemsEnd d s (count vs) at) (valuesOf d s (count vs) at)
+items-got : (d : ℕ) (s : Bytes) → OneLaw d s → (vs : Values) → Valids vs → deepest vs ≤ d → (at : ℕ) (r : Bytes) → at ≤ length s → drop at s ≡ encs vs r
+    → Got s r vs (itemsEnd d s (count vs) at) (valuesOf d s (count vs) at)
 unfolding OneLaw valuesOf iterOf
 items-got d s one none ok l at r i h = record { e = at; is = paths.items-none d s 0 at refl; rest = h; within = i; found = refl }
 items-got d s one (more v vs) ok l at r i h =
     let z = one v (ok .0) (omega arith) at (encs vs r) h in
     let k : suc (count vs) - 1 ≡ count vs = omega arith in
     also refl (one-more d s (count vs) at (z .e) v (z .is) (z .found))
-    (made (more v) (paths.items-more d s (suc (count vs)) at (z .e) (omega arith) (z .is) ∙ ap (λ (n : ℕ). itemsEnd d s n (z .e)) k) (items-got d s one vs (ok .1) (omega arith) (z .e) r (z .within) (z .rest)))
+    (made (more v) (paths.items-more d s (suc (count vs)) at (z .e) (omega arith) (z .is) ∙ ap (λ (n : ℕ). itemsEnd d s n (z .e)) k)
+    (items-got d s one vs (ok .1) (omega arith) (z .e) r (z .within) (z .rest)))
 
 -- behind a count n the end is that of f n values
-counts : (s : Bytes) (p : ℕ) (f : ℕ → ℕ) (d : ℕ) {n e : ℕ} → numDef (length s) s p ≡ Val n e → headThen (countOf (lengthAt s p) f) (λ m q. itemsEnd d s m q) ≡ itemsEnd d s (f n) e
+counts : (s : Bytes) (p : ℕ) (f : ℕ → ℕ) (d : ℕ) {n e : ℕ} → numDef (length s) s p ≡ Val n e
+    → headThen (countOf (lengthAt s p) f) (λ m q. itemsEnd d s m q) ≡ itemsEnd d s (f n) e
 unfolding lengthAt
 counts s p f d h = paths.count-is (lengthAt s p) f (λ m q. itemsEnd d s m q) ∙ rw h
 
 module _ (d : ℕ) (s : Bytes) (one : OneLaw d s) (p : ℕ) (r : Bytes) where
   -- a row behind its count
-  list-got : (vs : Values) → Valids vs → deepest vs ≤ d → drop p s ≡ counted (count vs) (encs vs r) → Got s r vs (paths.bodyEnd ListS s (λ n e. itemsEnd d s n e) p) (valuesAt s (λ n e. valuesOf d s n e) p)
+  list-got : (vs : Values) → Valids vs → deepest vs ≤ d → drop p s ≡ counted (count vs) (encs vs r)
+      → Got s r vs (paths.bodyEnd ListS s (λ n e. itemsEnd d s n e) p) (valuesAt s (λ n e. valuesOf d s n e) p)
   unfolding lengthAt valuesAt bodyHead
   list-got vs ok l h =
       let z = length-reads s p (count vs) (encs vs r) (omega (arith, room vs r)) h in
       also refl (rw (z .is)) (made (λ (x : Values). x) (counts s p (λ n. n) d (z .is)) (items-got d s one vs ok l (z .e) r (z .within) (z .rest)))
 
   -- pairs, and then m values
-  row-got : (ps : Pairs) (vs : Values) (m e : ℕ) → ValidPairs ps → Valids vs → deepestPairs ps ≤ d → deepest vs ≤ d → m ≡ countPairs ps + countPairs ps + count vs → e ≤ length s → drop e s ≡ encPairs ps (encs vs r) → Got s r (flat ps vs) (itemsEnd d s m e) (valuesOf d s m e)
+  row-got : (ps : Pairs) (vs : Values) (m e : ℕ) → ValidPairs ps → Valids vs → deepestPairs ps ≤ d → deepest vs ≤ d
+      → m ≡ countPairs ps + countPairs ps + count vs → e ≤ length s → drop e s ≡ encPairs ps (encs vs r)
+      → Got s r (flat ps vs) (itemsEnd d s m e) (valuesOf d s m e)
   row-got ps vs m e ok vk l k n i h =
       let c : m ≡ count (flat ps vs) = n ∙ sym (flat-count ps vs) in
       rw c (items-got d s one (flat ps vs) (flat-valid ps vs ok vk) (flat-deep ps vs d l k) e r i (h ∙ sym (flat-enc ps vs r)))
 
   -- pairs behind their count
-  map-got : (ps : Pairs) → ValidPairs ps → deepestPairs ps ≤ d → drop p s ≡ counted (countPairs ps) (encPairs ps r) → Got s r ps (paths.bodyEnd PairsS s (λ n e. itemsEnd d s n e) p) (pairsAt s (λ n e. valuesOf d s n e) p)
+  map-got : (ps : Pairs) → ValidPairs ps → deepestPairs ps ≤ d → drop p s ≡ counted (countPairs ps) (encPairs ps r)
+      → Got s r ps (paths.bodyEnd PairsS s (λ n e. itemsEnd d s n e) p) (pairsAt s (λ n e. valuesOf d s n e) p)
   unfolding lengthAt pairsAt bodyHead
   map-got ps ok l h =
       let n : ℕ = countPairs ps in
@@ -205,18 +218,23 @@ module _ (d : ℕ) (s : Bytes) (one : OneLaw d s) (p : ℕ) (r : Bytes) where
       (made (pairUp n) (counts s p (λ n. n + n) d (z .is)) (row-got ps none (n + n) (z .e) ok tt l (omega arith) (omega arith) (z .within) (z .rest)))
 
   -- pairs behind their count, and a value after them
-  attribute-got : (ps : Pairs) (v : Value) → ValidPairs ps → Valid v → deepestPairs ps ≤ d → depth v ≤ d → drop p s ≡ counted (countPairs ps) (encPairs ps (enc v r)) → Got s r (attribute ps v) (paths.bodyEnd PairsAndValue s (λ n e. itemsEnd d s n e) p) (attributeAt s (λ n e. valuesOf d s n e) p)
+  attribute-got : (ps : Pairs) (v : Value) → ValidPairs ps → Valid v → deepestPairs ps ≤ d → depth v ≤ d
+      → drop p s ≡ counted (countPairs ps) (encPairs ps (enc v r))
+      → Got s r (attribute ps v) (paths.bodyEnd PairsAndValue s (λ n e. itemsEnd d s n e) p) (attributeAt s (λ n e. valuesOf d s n e) p)
   unfolding lengthAt attributeAt bodyHead
   attribute-got ps v ok vk l k h =
       let n : ℕ = countPairs ps in
       let z = length-reads s p n (encPairs ps (enc v r)) (omega (arith, roomPairs ps (enc v r))) h in
       also (ap₂ attribute (pairs-flat ps (more v none)) (ap headOf (skip-flat ps (more v none)))) (rw (z .is))
-      (made (λ (ws : Values). attribute (pairUp n ws) (headOf (skip n ws))) (counts s p (λ n. n + n + 1) d (z .is)) (row-got ps (more v none) (n + n + 1) (z .e) ok (vk, tt) l (omega arith) (omega arith) (z .within) (z .rest)))
+      (made (λ (ws : Values). attribute (pairUp n ws) (headOf (skip n ws))) (counts s p (λ n. n + n + 1) d (z .is))
+      (row-got ps (more v none) (n + n + 1) (z .e) ok (vk, tt) l (omega arith) (omega arith) (z .within) (z .rest)))
 
 -- ---- one value
 
 -- a value's first byte says its kind; what is behind it is read by that
-at-kind : (d : ℕ) (s : Bytes) (at : ℕ) (r : Bytes) (k : Kind) (q : Bytes) (v : Value) → drop at s ≡ byteOf k ∷ q → Got s r v (paths.bodyEnd (shapeOf k) s (λ n e. itemsEnd d s n e) (at + 1)) (bodyOf k s (λ n e. valuesOf d s n e) (at + 1)) → Got s r v (valueEnd (suc d) s at) (valueOf (suc d) s at)
+at-kind : (d : ℕ) (s : Bytes) (at : ℕ) (r : Bytes) (k : Kind) (q : Bytes) (v : Value) → drop at s ≡ byteOf k ∷ q
+    → Got s r v (paths.bodyEnd (shapeOf k) s (λ n e. itemsEnd d s n e) (at + 1)) (bodyOf k s (λ n e. valuesOf d s n e) (at + 1))
+    → Got s r v (valueEnd (suc d) s at) (valueOf (suc d) s at)
 unfolding valueEnd headAt itemsEnd valueOf valuesOf
 at-kind d s at r k q v h z =
     let f : kindOf (getD s at 0) ≡ k = ap kindOf (first s at (byteOf k) q h) ∙ kind-byte k in
@@ -226,29 +244,38 @@ module _ (d : ℕ) (s : Bytes) (one : OneLaw d s) (at : ℕ) (r : Bytes) where
   -- one value, by the law for those below it
   value-got : (v : Value) → Valid v → below v ≤ d → drop at s ≡ enc v r → Got s r v (valueEnd (suc d) s at) (valueOf (suc d) s at)
   unfolding bodyHead bodyOf
-  value-got (blobString xs) ok l h = at-kind d s at r BlobString _ _ h (made blobString (paths.alone-is d s _) (blob-got s (at + 1) xs r (after s at (_ ∷ []) _ h)))
-  value-got (simpleString xs) ok l h = at-kind d s at r SimpleString _ _ h (made simpleString (paths.alone-is d s _) (line-got s (at + 1) xs r ok (after s at (_ ∷ []) _ h)))
-  value-got (simpleError xs) ok l h = at-kind d s at r SimpleError _ _ h (made simpleError (paths.alone-is d s _) (line-got s (at + 1) xs r ok (after s at (_ ∷ []) _ h)))
+  value-got (blobString xs) ok l h =
+      at-kind d s at r BlobString _ _ h (made blobString (paths.alone-is d s _) (blob-got s (at + 1) xs r (after s at (_ ∷ []) _ h)))
+  value-got (simpleString xs) ok l h =
+      at-kind d s at r SimpleString _ _ h (made simpleString (paths.alone-is d s _) (line-got s (at + 1) xs r ok (after s at (_ ∷ []) _ h)))
+  value-got (simpleError xs) ok l h =
+      at-kind d s at r SimpleError _ _ h (made simpleError (paths.alone-is d s _) (line-got s (at + 1) xs r ok (after s at (_ ∷ []) _ h)))
   value-got (number z) ok l h = at-kind d s at r Number _ _ h (made number (paths.alone-is d s _) (number-got s (at + 1) z r ok (after s at (_ ∷ []) _ h)))
   value-got null ok l h = at-kind d s at r Null _ _ h (made (λ (x : Value). x) (paths.alone-is d s _) (crlf-got s (at + 1) r null (after s at (_ ∷ []) _ h)))
   value-got (double xs) ok l h = at-kind d s at r Double _ _ h (made double (paths.alone-is d s _) (line-got s (at + 1) xs r ok (after s at (_ ∷ []) _ h)))
   value-got (boolean b) ok l h = at-kind d s at r Boolean _ _ h (made boolean (paths.alone-is d s _) (flag-got s (at + 1) b r (after s at (_ ∷ []) _ h)))
-  value-got (blobError xs) ok l h = at-kind d s at r BlobError _ _ h (made blobError (paths.alone-is d s _) (blob-got s (at + 1) xs r (after s at (_ ∷ []) _ h)))
-  value-got (verbatimString f xs) ok l h = at-kind d s at r VerbatimString _ _ h (made (λ (x : Value). x) (paths.alone-is d s _) (verbatim-got s (at + 1) f xs r ok (after s at (_ ∷ []) _ h)))
-  value-got (bigNumber xs) ok l h = at-kind d s at r BigNumber _ _ h (made bigNumber (paths.alone-is d s _) (line-got s (at + 1) xs r ok (after s at (_ ∷ []) _ h)))
+  value-got (blobError xs) ok l h =
+      at-kind d s at r BlobError _ _ h (made blobError (paths.alone-is d s _) (blob-got s (at + 1) xs r (after s at (_ ∷ []) _ h)))
+  value-got (verbatimString f xs) ok l h =
+      at-kind d s at r VerbatimString _ _ h (made (λ (x : Value). x) (paths.alone-is d s _) (verbatim-got s (at + 1) f xs r ok (after s at (_ ∷ []) _ h)))
+  value-got (bigNumber xs) ok l h =
+      at-kind d s at r BigNumber _ _ h (made bigNumber (paths.alone-is d s _) (line-got s (at + 1) xs r ok (after s at (_ ∷ []) _ h)))
   value-got (array vs) ok l h = at-kind d s at r Array _ _ h (made array refl (list-got d s one (at + 1) r vs ok l (after s at (_ ∷ []) _ h)))
   value-got (map ps) ok l h = at-kind d s at r Map _ _ h (made map refl (map-got d s one (at + 1) r ps ok l (after s at (_ ∷ []) _ h)))
   value-got (set vs) ok l h = at-kind d s at r Set _ _ h (made set refl (list-got d s one (at + 1) r vs ok l (after s at (_ ∷ []) _ h)))
-  value-got (attribute ps v) ok l h = at-kind d s at r Attribute _ _ h (attribute-got d s one (at + 1) r ps v (ok .0) (ok .1) (omega arith) (omega arith) (after s at (_ ∷ []) _ h))
+  value-got (attribute ps v) ok l h =
+      at-kind d s at r Attribute _ _ h (attribute-got d s one (at + 1) r ps v (ok .0) (ok .1) (omega arith) (omega arith) (after s at (_ ∷ []) _ h))
   value-got (push vs) ok l h = at-kind d s at r Push _ _ h (made push refl (list-got d s one (at + 1) r vs ok l (after s at (_ ∷ []) _ h)))
 
 -- where a valid value of depth at most d is written, it is read
-pub read-law : (d : ℕ) (s : Bytes) (v : Value) → Valid v → depth v ≤ d → (at : ℕ) (r : Bytes) → drop at s ≡ enc v r → Got s r v (valueEnd d s at) (valueOf d s at)
+pub read-law : (d : ℕ) (s : Bytes) (v : Value) → Valid v → depth v ≤ d → (at : ℕ) (r : Bytes) → drop at s ≡ enc v r
+    → Got s r v (valueEnd d s at) (valueOf d s at)
 unfolding OneLaw
 read-law zero s v ok l at r h = absurd (omega arith)
 read-law (suc d) s v ok l at r h = value-got d s (λ w wk m a q g. read-law d s w wk m a q g) at r v ok (omega arith) h
 
 -- and so are values one after the other
-pub items-law : (d : ℕ) (s : Bytes) (vs : Values) → Valids vs → deepest vs ≤ d → (at : ℕ) (r : Bytes) → at ≤ length s → drop at s ≡ encs vs r → Got s r vs (itemsEnd d s (count vs) at) (valuesOf d s (count vs) at)
+pub items-law : (d : ℕ) (s : Bytes) (vs : Values) → Valids vs → deepest vs ≤ d → (at : ℕ) (r : Bytes) → at ≤ length s → drop at s ≡ encs vs r
+    → Got s r vs (itemsEnd d s (count vs) at) (valuesOf d s (count vs) at)
 unfolding OneLaw
 items-law d s vs ok l at r i h = items-got d s (λ w wk m a q g. read-law d s w wk m a q g) vs ok l at r i h

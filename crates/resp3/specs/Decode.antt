@@ -12,13 +12,15 @@ use Rattle.decimal.specs.Read.{numDef}
 use Rattle.decimal.specs.declared.Num.{Num}
 use Rattle.decimal.specs.declared.Num.the-variants.{Val, Bad as BadNum}
 use Rattle.resp3.specs.declared.Kind.{Kind}
-use Rattle.resp3.specs.declared.Kind.the-variants.{BlobString, SimpleString, SimpleError, Number, Null, Double, Boolean, BlobError, VerbatimString, BigNumber, Array, Map, Set, Attribute, Push, Unknown}
+use Rattle.resp3.specs.declared.Kind.the-variants.{BlobString, SimpleString, SimpleError, Number, Null, Double, Boolean, BlobError}
+use Rattle.resp3.specs.declared.Kind.the-variants.{VerbatimString, BigNumber, Array, Map, Set, Attribute, Push, Unknown}
 use Rattle.resp3.specs.declared.End.{End}
 use Rattle.resp3.specs.declared.End.the-variants.{At, Bad}
 use Rattle.resp3.specs.Kinds.{kindOf}
 use Rattle.resp3.specs.Ends.{lengthAt, plain, valueEnd}
 use Rattle.resp3.specs.Rows.{headOf, pairUp, skip}
-use Rattle.resp3.specs.Value.{Value, Values, Pairs, blobString, simpleString, simpleError, number, null, double, boolean, blobError, verbatimString, bigNumber, array, map, set, attribute, push, none, more, nil}
+use Rattle.resp3.specs.Value.{Value, Values, Pairs, blobString, simpleString, simpleError, number, null, double, boolean, blobError}
+use Rattle.resp3.specs.Value.{verbatimString, bigNumber, array, map, set, attribute, push, none, more, nil}
 
 -- go on with a number and where it ended, or take a
 abbrev pub numCase : {A : Type 0} → Num → (ℕ → ℕ → A) → A → A

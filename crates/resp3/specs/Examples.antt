@@ -7,7 +7,8 @@ use mathlib.Core.Bool.{true, false}
 use lib.IntN.{pos}
 use Rattle.decimal.specs.Digits.{digits}
 use Rattle.buffer.specs.Ascii.{ascii}
-use Rattle.resp3.specs.Value.{blobString, simpleString, simpleError, number, null, double, boolean, blobError, verbatimString, bigNumber, array, map, set, attribute, push, none, more, nil, pair, encode}
+use Rattle.resp3.specs.Value.{blobString, simpleString, simpleError, number, null, double, boolean, blobError, verbatimString, bigNumber}
+use Rattle.resp3.specs.Value.{array, map, set, attribute, push, none, more, nil, pair, encode}
 
 -- opens the writing of values
 unfoldable written : Unit {0}
@@ -81,27 +82,32 @@ unfolding written
 a-map = refl
 
 a-set :
-    encode (set (more (simpleString (ascii "orange")) (more (simpleString (ascii "apple")) (more (boolean true) (more (number (pos 100)) (more (number (pos 999)) none))))))
+    encode (set (more (simpleString (ascii "orange"))
+    (more (simpleString (ascii "apple")) (more (boolean true) (more (number (pos 100)) (more (number (pos 999)) none))))))
     ≡ ascii "~5\r\n+orange\r\n+apple\r\n#t\r\n:100\r\n:999\r\n"
 unfolding written
 a-set = refl
 
 -- an attribute inside an array: [1, 2, 3], the last with a time to live
 an-attribute :
-    encode (array (more (number (pos 1)) (more (number (pos 2)) (more (attribute (pair (simpleString (ascii "ttl")) (number (pos 3600)) nil) (number (pos 3))) none))))
+    encode (array (more (number (pos 1))
+    (more (number (pos 2)) (more (attribute (pair (simpleString (ascii "ttl")) (number (pos 3600)) nil) (number (pos 3))) none))))
     ≡ ascii "*3\r\n:1\r\n:2\r\n|1\r\n+ttl\r\n:3600\r\n:3\r\n"
 unfolding written
 an-attribute = refl
 
 -- an attribute before a reply: how often two keys were asked for, and then an array of two numbers
 key-popularity :
-    encode (attribute (pair (simpleString (ascii "key-popularity")) (map (pair (blobString (ascii "a")) (double (ascii "0.1923")) (pair (blobString (ascii "b")) (double (ascii "0.0012")) nil))) nil) (array (more (number (pos 2039123)) (more (number (pos 9543892)) none))))
+    encode (attribute (pair (simpleString (ascii "key-popularity"))
+    (map (pair (blobString (ascii "a")) (double (ascii "0.1923")) (pair (blobString (ascii "b")) (double (ascii "0.0012")) nil))) nil)
+    (array (more (number (pos 2039123)) (more (number (pos 9543892)) none))))
     ≡ ascii "|1\r\n+key-popularity\r\n%2\r\n$1\r\na\r\n,0.1923\r\n$1\r\nb\r\n,0.0012\r\n*2\r\n:2039123\r\n:9543892\r\n"
 unfolding written
 key-popularity = refl
 
 a-push :
-    encode (push (more (simpleString (ascii "pubsub")) (more (simpleString (ascii "message")) (more (simpleString (ascii "somechannel")) (more (simpleString (ascii "this is the message")) none)))))
+    encode (push (more (simpleString (ascii "pubsub"))
+    (more (simpleString (ascii "message")) (more (simpleString (ascii "somechannel")) (more (simpleString (ascii "this is the message")) none)))))
     ≡ ascii ">4\r\n+pubsub\r\n+message\r\n+somechannel\r\n+this is the message\r\n"
 unfolding written
 a-push = refl

@@ -7,7 +7,8 @@ use lib.Dec.{eqb}
 use borrow.Author.Tests.{eqb-true}
 use Rattle.buffer.specs.Cases.{byTest}
 use Rattle.resp3.specs.declared.Kind.{Kind}
-use Rattle.resp3.specs.declared.Kind.the-variants.{BlobString, SimpleString, SimpleError, Number, Null, Double, Boolean, BlobError, VerbatimString, BigNumber, Array, Map, Set, Attribute, Push, Unknown}
+use Rattle.resp3.specs.declared.Kind.the-variants.{BlobString, SimpleString, SimpleError, Number, Null, Double, Boolean, BlobError}
+use Rattle.resp3.specs.declared.Kind.the-variants.{VerbatimString, BigNumber, Array, Map, Set, Attribute, Push, Unknown}
 use Rattle.resp3.specs.Kinds.{byteOf, kinds, pick, kindOf}
 
 -- a kind is found by its byte

@@ -5,7 +5,8 @@ use Prim.Native.Nat.{ℕ}
 use Prim.Native.Char.{code}
 use lib.Dec.{eqb}
 use Rattle.resp3.specs.declared.Kind.{Kind}
-use Rattle.resp3.specs.declared.Kind.the-variants.{BlobString, SimpleString, SimpleError, Number, Null, Double, Boolean, BlobError, VerbatimString, BigNumber, Array, Map, Set, Attribute, Push, Unknown}
+use Rattle.resp3.specs.declared.Kind.the-variants.{BlobString, SimpleString, SimpleError, Number, Null, Double, Boolean, BlobError}
+use Rattle.resp3.specs.declared.Kind.the-variants.{VerbatimString, BigNumber, Array, Map, Set, Attribute, Push, Unknown}
 use Rattle.resp3.specs.declared.Shape.{Shape}
 use Rattle.resp3.specs.declared.Shape.the-variants.{Blob, Line, Integer, Empty, Flag, Verbatim, List as ListS, Pairs, PairsAndValue, Nothing}
 
@@ -49,7 +50,9 @@ shapeOf Unknown = Nothing
 
 -- all kinds, in the order of rule V1
 abbrev pub kinds : List Kind
-kinds = BlobString ∷ SimpleString ∷ SimpleError ∷ Number ∷ Null ∷ Double ∷ Boolean ∷ BlobError ∷ VerbatimString ∷ BigNumber ∷ Array ∷ Map ∷ Set ∷ Attribute ∷ Push ∷ []
+kinds =
+    BlobString ∷ SimpleString ∷ SimpleError ∷ Number ∷ Null ∷ Double ∷ Boolean ∷ BlobError ∷ VerbatimString ∷ BigNumber ∷ Array ∷ Map ∷ Set ∷ Attribute ∷ Push
+    ∷ []
 
 -- the first of them that begins with b
 abbrev pub pick : ℕ → List Kind → Kind

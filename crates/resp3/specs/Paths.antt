@@ -25,7 +25,8 @@ use Rattle.resp3.specs.declared.End.{End}
 use Rattle.resp3.specs.declared.End.the-variants.{At, Bad}
 use Rattle.resp3.specs.Kinds.{byteOf, shapeOf, kinds, pick, kindOf}
 use Rattle.resp3.specs.Value.{plainB}
-use Rattle.resp3.specs.Ends.{numThen, lengthAt, crlfEnd, plain, lineEnd, blobEnd, verbatimEnd, numberEnd, booleanEnd, aloneOf, countOf, bodyHead, headAt, headThen, iter, valueEnd, itemsEnd, endsAt, isValue}
+use Rattle.resp3.specs.Ends.{numThen, lengthAt, crlfEnd, plain, lineEnd, blobEnd, verbatimEnd, numberEnd, booleanEnd, aloneOf, countOf}
+use Rattle.resp3.specs.Ends.{bodyHead, headAt, headThen, iter, valueEnd, itemsEnd, endsAt, isValue}
 
 -- a byte that begins no kind of a list
 abbrev pub NoneOf : ℕ → List Kind → Type 0
@@ -143,7 +144,8 @@ unfolding numberEnd
 int-out s at h = rw (getD-out s at h, num-out 9223372036854775807 s at h)
 
 -- behind a minus
-pub int-neg : (s : Bytes) (at : ℕ) (r : Num) → getD s at 0 ≡ 45 → numDef 9223372036854775808 s (at + 1) ≡ r → numberEnd s at ≡ numThen r (λ n e. cond (eqb n 0) Bad (At e))
+pub int-neg : (s : Bytes) (at : ℕ) (r : Num) → getD s at 0 ≡ 45 → numDef 9223372036854775808 s (at + 1) ≡ r
+    → numberEnd s at ≡ numThen r (λ n e. cond (eqb n 0) Bad (At e))
 unfolding numberEnd
 int-neg s at r h e = rw (h, e)
 

@@ -5,7 +5,9 @@ use Prim.Native.Nat.{ℕ, zero, suc, _+_, _≤_, _<_}
 use native.Mathlib.Omega.{arith}
 use lib.ListN.{length, length-append}
 use Rattle.buffer.specs.Same.{Bytes}
-use Rattle.resp3.specs.Value.{Value, Values, Pairs, blobString, simpleString, simpleError, number, null, double, boolean, blobError, verbatimString, bigNumber, array, map, set, attribute, push, none, more, nil, pair, count, countPairs, deepest, deepestPairs, Valids, ValidPairs, enc, encs, encPairs, encode}
+use Rattle.resp3.specs.Value.{Value, Values, Pairs, blobString, simpleString, simpleError, number, null, double, boolean, blobError}
+use Rattle.resp3.specs.Value.{verbatimString, bigNumber, array, map, set, attribute, push, none, more, nil, pair, count, countPairs, deepest}
+use Rattle.resp3.specs.Value.{deepestPairs, Valids, ValidPairs, enc, encs, encPairs, encode}
 
 -- ---- what is written does not look at what follows
 

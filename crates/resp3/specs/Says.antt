@@ -129,7 +129,8 @@ verbatim-says s p e h =
     let z = num-then (lengthAt s p) (λ n q. cond (leb 4 n) (cond (eqb (getD s (q + 3) 0) 58) (crlfEnd s (q + n)) Bad) Bad) e h in
     go (z .n) (z .q) (leb 4 (z .n)) (eqb (getD s (z .q + 3) 0) 58) refl refl (z .is) (z .then)
   where
-    go : (n q : ℕ) (a b : Bool) → leb 4 n ≡ a → eqb (getD s (q + 3) 0) 58 ≡ b → lengthAt s p ≡ Val n q → cond a (cond b (crlfEnd s (q + n)) Bad) Bad ≡ At e → VerbatimSays s p e
+    go : (n q : ℕ) (a b : Bool) → leb 4 n ≡ a → eqb (getD s (q + 3) 0) 58 ≡ b → lengthAt s p ≡ Val n q
+        → cond a (cond b (crlfEnd s (q + n)) Bad) Bad ≡ At e → VerbatimSays s p e
     go n q true true f g i k =
         let four = leb-true 4 n f in
         let c = crlf-says s (q + n) e k in
@@ -188,7 +189,8 @@ pub flag-says : (s : Bytes) (p e : ℕ) → booleanEnd s p ≡ At e → FlagSays
 unfolding booleanEnd
 flag-says s p e h = go (eqb (getD s p 0) 116) (eqb (getD s p 0) 102) refl refl h
   where
-    go : (a b : Bool) → eqb (getD s p 0) 116 ≡ a → eqb (getD s p 0) 102 ≡ b → cond a (crlfEnd s (p + 1)) (cond b (crlfEnd s (p + 1)) Bad) ≡ At e → FlagSays s p e
+    go : (a b : Bool) → eqb (getD s p 0) 116 ≡ a → eqb (getD s p 0) 102 ≡ b → cond a (crlfEnd s (p + 1)) (cond b (crlfEnd s (p + 1)) Bad) ≡ At e
+        → FlagSays s p e
     go true b f g k =
         let m = eqb-true (getD s p 0) 116 f in
         record { b = true; is = step s p (inside s p (omega arith)) ∙ rw (m, crlf-says s (p + 1) e k .1) }

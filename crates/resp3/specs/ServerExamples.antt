@@ -5,7 +5,8 @@ use mathlib.Core.Bool.{true, false}
 use lib.IntN.{pos, negsuc}
 use Rattle.decimal.specs.Digits.{digits}
 use Rattle.buffer.specs.Ascii.{ascii}
-use Rattle.resp3.specs.Value.{blobString, simpleString, simpleError, number, null, double, boolean, verbatimString, bigNumber, array, map, set, attribute, push, none, more, nil, pair, encode}
+use Rattle.resp3.specs.Value.{blobString, simpleString, simpleError, number, null, double, boolean, verbatimString, bigNumber, array, map, set}
+use Rattle.resp3.specs.Value.{attribute, push, none, more, nil, pair, encode}
 
 -- opens the writing of values
 unfoldable written : Unit {0}
@@ -39,7 +40,8 @@ three-pairs = refl
 
 -- an attribute is its pairs and then one value
 an-attribute :
-    encode (attribute (pair (blobString (ascii "key-popularity")) (array (more (blobString (ascii "key:123")) (more (number (pos 90)) none))) nil) (blobString (ascii "Some real reply following the attribute")))
+    encode (attribute (pair (blobString (ascii "key-popularity")) (array (more (blobString (ascii "key:123")) (more (number (pos 90)) none))) nil)
+    (blobString (ascii "Some real reply following the attribute")))
     ≡ ascii "|1\r\n$14\r\nkey-popularity\r\n*2\r\n$7\r\nkey:123\r\n:90\r\n$39\r\nSome real reply following the attribute\r\n"
 unfolding written
 an-attribute = refl
@@ -51,7 +53,8 @@ a-push = refl
 -- a command in a transaction, a command for another kind of value, PTTL of a key that is not there, and MGET of one key that is there and one that is not
 replies :
     (encode (simpleString (ascii "QUEUED")) ≡ ascii "+QUEUED\r\n")
-    × (encode (simpleError (ascii "WRONGTYPE Operation against a key holding the wrong kind of value")) ≡ ascii "-WRONGTYPE Operation against a key holding the wrong kind of value\r\n")
+    × (encode (simpleError (ascii "WRONGTYPE Operation against a key holding the wrong kind of value"))
+    ≡ ascii "-WRONGTYPE Operation against a key holding the wrong kind of value\r\n")
     × (encode (number (negsuc 1)) ≡ ascii ":-2\r\n")
     × (encode (array (more (blobString (ascii "1")) (more null none))) ≡ ascii "*2\r\n$1\r\n1\r\n_\r\n")
 unfolding written

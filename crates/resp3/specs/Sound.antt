@@ -8,13 +8,16 @@ use lib.ListN.{length, getD, drop}
 use Rattle.buffer.specs.Same.{Bytes}
 use Rattle.buffer.specs.Places.{step}
 use Rattle.resp3.specs.declared.Kind.{Kind}
-use Rattle.resp3.specs.declared.Kind.the-variants.{BlobString, SimpleString, SimpleError, Number, Null, Double, Boolean, BlobError, VerbatimString, BigNumber, Array, Map, Set, Attribute, Push, Unknown}
+use Rattle.resp3.specs.declared.Kind.the-variants.{BlobString, SimpleString, SimpleError, Number, Null, Double, Boolean, BlobError}
+use Rattle.resp3.specs.declared.Kind.the-variants.{VerbatimString, BigNumber, Array, Map, Set, Attribute, Push, Unknown}
 use Rattle.decimal.specs.declared.Num.{Num}
 use Rattle.resp3.specs.declared.End.{End}
 use Rattle.resp3.specs.declared.End.the-variants.{At, Bad}
 use Rattle.resp3.specs.Kinds.{byteOf, shapeOf, kindOf}
 use Rattle.resp3.specs.KindLaws.{kind-known}
-use Rattle.resp3.specs.Value.{Value, Values, Pairs, blobString, simpleString, simpleError, number, null, double, boolean, blobError, verbatimString, bigNumber, array, map, set, attribute, push, none, more, count, below, deepest, depth, Valid, Valids, counted, enc, encs, encPairs}
+use Rattle.resp3.specs.Value.{Value, Values, Pairs, blobString, simpleString, simpleError, number, null, double, boolean, blobError}
+use Rattle.resp3.specs.Value.{verbatimString, bigNumber, array, map, set, attribute, push, none, more, count, below, deepest, depth, Valid}
+use Rattle.resp3.specs.Value.{Valids, counted, enc, encs, encPairs}
 use Rattle.resp3.specs.Ends.{numThen, endThen, lengthAt, aloneOf, countOf, bodyHead, headThen, iter, valueEnd, itemsEnd}
 use Rattle.resp3.specs.Paths as paths
 use Rattle.resp3.specs.Rows.{headOf, flat, flat-enc, valid-flat, deep-flat, pairUp, skip, paired, row-none, row-one}
@@ -41,7 +44,8 @@ unfolding itemsEnd iter
 items-sound d s one zero at e h = record { vs = none; many = refl; ok = tt; deep = omega arith; is = ap (λ (k : ℕ). drop k s) (at-same at e h) }
 items-sound d s one (suc n) at e h = go (valueEnd d s at) refl h (λ q k. items-sound d s one n q e k)
   where
-    go : (x : End) → valueEnd d s at ≡ x → endThen x (λ q. iter (λ k. valueEnd d s k) n q) ≡ At e → ((q : ℕ) → itemsEnd d s n q ≡ At e → AllWritten d s n q e) → AllWritten d s (suc n) at e
+    go : (x : End) → valueEnd d s at ≡ x → endThen x (λ q. iter (λ k. valueEnd d s k) n q) ≡ At e
+        → ((q : ℕ) → itemsEnd d s n q ≡ At e → AllWritten d s n q e) → AllWritten d s (suc n) at e
     go (At q) i k rest =
         let w = one at q i in
         let r = rest q k in
@@ -76,7 +80,8 @@ module _ (d : ℕ) (s : Bytes) (at e : ℕ) (rec : (n q : ℕ) → itemsEnd d s 
 
   module _ (i : at < length s) where
     -- a value of this kind was written, if its body was
-    written : (k : Kind) (v : Value) (q : Bytes) → getD s at 0 ≡ byteOf k → Valid v → below v ≤ d → drop (at + 1) s ≡ q → byteOf k ∷ q ≡ enc v (drop e s) → Written (suc d) s at e
+    written : (k : Kind) (v : Value) (q : Bytes) → getD s at 0 ≡ byteOf k → Valid v → below v ≤ d → drop (at + 1) s ≡ q → byteOf k ∷ q ≡ enc v (drop e s)
+        → Written (suc d) s at e
     written k v q b ok l h g = record { v = v; ok = ok; deep = omega arith; is = step s at i ∙ rw (b, h) g }
 
     -- a map was written
@@ -124,13 +129,21 @@ module _ (d : ℕ) (s : Bytes) (at e : ℕ) (rec : (n q : ℕ) → itemsEnd d s 
     by-kind Double b h = let z = line-says s (at + 1) e (single h) in written Double (double (z .xs)) _ b (z .ok) (omega arith) (z .is) refl
     by-kind Boolean b h = let z = flag-says s (at + 1) e (single h) in written Boolean (boolean (z .b)) _ b tt (omega arith) (z .is) refl
     by-kind BlobError b h = let z = blob-says s (at + 1) e (single h) in written BlobError (blobError (z .xs)) _ b tt (omega arith) (z .is) refl
-    by-kind VerbatimString b h = let z = verbatim-says s (at + 1) e (single h) in written VerbatimString (verbatimString (z .f) (z .xs)) _ b (z .three) (omega arith) (z .is) refl
+    by-kind VerbatimString b h =
+        let z = verbatim-says s (at + 1) e (single h) in
+        written VerbatimString (verbatimString (z .f) (z .xs)) _ b (z .three) (omega arith) (z .is) refl
     by-kind BigNumber b h = let z = line-says s (at + 1) e (single h) in written BigNumber (bigNumber (z .xs)) _ b (z .ok) (omega arith) (z .is) refl
-    by-kind Array b h = let z = list-says (at + 1) (rowed (lengthAt s (at + 1)) (λ n. n) h) in written Array (array (z .row)) _ b (z .ok) (z .deep) (list-is (at + 1) z) refl
+    by-kind Array b h =
+        let z = list-says (at + 1) (rowed (lengthAt s (at + 1)) (λ n. n) h) in
+        written Array (array (z .row)) _ b (z .ok) (z .deep) (list-is (at + 1) z) refl
     by-kind Map b h = map-written b (row-says (λ n. n + n) (at + 1) (rowed (lengthAt s (at + 1)) (λ n. n + n) h))
-    by-kind Set b h = let z = list-says (at + 1) (rowed (lengthAt s (at + 1)) (λ n. n) h) in written Set (set (z .row)) _ b (z .ok) (z .deep) (list-is (at + 1) z) refl
+    by-kind Set b h =
+        let z = list-says (at + 1) (rowed (lengthAt s (at + 1)) (λ n. n) h) in
+        written Set (set (z .row)) _ b (z .ok) (z .deep) (list-is (at + 1) z) refl
     by-kind Attribute b h = attribute-written b (row-says (λ n. n + n + 1) (at + 1) (rowed (lengthAt s (at + 1)) (λ n. n + n + 1) h))
-    by-kind Push b h = let z = list-says (at + 1) (rowed (lengthAt s (at + 1)) (λ n. n) h) in written Push (push (z .row)) _ b (z .ok) (z .deep) (list-is (at + 1) z) refl
+    by-kind Push b h =
+        let z = list-says (at + 1) (rowed (lengthAt s (at + 1)) (λ n. n) h) in
+        written Push (push (z .row)) _ b (z .ok) (z .deep) (list-is (at + 1) z) refl
     by-kind Unknown b h = absurd (not-bad e h)
 
 -- no kind has no end

@@ -66,19 +66,22 @@ no-replies All clock (multiple ps ∷ cs) = refl
 no-replies OptIn clock (multiple ps ∷ cs) = refl
 
 -- commands that are all served take no replies, and store nothing
-pub all-served : (mode : CacheMode) (clock : ℕ) (cs : List Command) (rs vs : Values) → servedAnswers cs ≡ some vs → takeCommands mode clock cs rs ≡ answered vs []
+pub all-served : (mode : CacheMode) (clock : ℕ) (cs : List Command) (rs vs : Values) → servedAnswers cs ≡ some vs
+    → takeCommands mode clock cs rs ≡ answered vs []
 unfolding servedAnswers
 all-served mode clock [] rs vs e = let q : none ≡ vs = cc in ap (λ (ws : Values). answered ws []) q
 all-served mode clock (handedOn ∷ cs) rs vs e = absurd (let z : _≡_ {A = ℕ} 0 1 = cc in omega arith)
 all-served mode clock (cached v ∷ cs) rs vs e = go (servedAnswers cs) refl e (λ ws h. all-served mode clock cs rs ws h)
   where
-    go : (o : Option Values) → servedAnswers cs ≡ o → withAnswer v o ≡ some vs → ((ws : Values) → servedAnswers cs ≡ some ws → takeCommands mode clock cs rs ≡ answered ws [])
+    go : (o : Option Values) → servedAnswers cs ≡ o → withAnswer v o ≡ some vs
+        → ((ws : Values) → servedAnswers cs ≡ some ws → takeCommands mode clock cs rs ≡ answered ws [])
         → behind v [] (takeCommands mode clock cs rs) ≡ answered vs []
     go option.none h q f = absurd (let z : _≡_ {A = ℕ} 0 1 = cc in omega arith)
     go (some ws) h q f = let p : more v ws ≡ vs = cc in ap (behind v []) (f ws h) ∙ ap (λ (us : Values). answered us []) p
 all-served mode clock (cachedArray us ∷ cs) rs vs e = go (servedAnswers cs) refl e (λ ws h. all-served mode clock cs rs ws h)
   where
-    go : (o : Option Values) → servedAnswers cs ≡ o → withAnswer (array us) o ≡ some vs → ((ws : Values) → servedAnswers cs ≡ some ws → takeCommands mode clock cs rs ≡ answered ws [])
+    go : (o : Option Values) → servedAnswers cs ≡ o → withAnswer (array us) o ≡ some vs
+        → ((ws : Values) → servedAnswers cs ≡ some ws → takeCommands mode clock cs rs ≡ answered ws [])
         → behind (array us) [] (takeCommands mode clock cs rs) ≡ answered vs []
     go option.none h q f = absurd (let z : _≡_ {A = ℕ} 0 1 = cc in omega arith)
     go (some ws) h q f = let p : more (array us) ws ≡ vs = cc in ap (behind (array us) []) (f ws h) ∙ ap (λ (us : Values). answered us []) p

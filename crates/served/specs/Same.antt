@@ -63,7 +63,8 @@ module _ (p : Setup) (rows : ℕ → Row) (h : Held) (e : decode isValue p (h .a
   unfolding resolvedOn answerOf bufferAfter toldTo fits refusedOf servedFrom bufferFrom call-defs afterAll answers ons stores refusals
   served-on vs =
       byTest (leb (length (resultBytes transaction vs)) (length buffer))
-      (λ t. rw t (ap (λ (k : Held). returning (Answered (length (resultBytes transaction vs)) 0) (put buffer 0 (resultBytes transaction vs)) k) (nothing-held p rows h e)))
+      (λ t. rw t (ap (λ (k : Held). returning (Answered (length (resultBytes transaction vs)) 0) (put buffer 0 (resultBytes transaction vs)) k)
+      (nothing-held p rows h e)))
       (λ t. rw t (ap (λ (k : Held). returning (Refused shortAnswer) buffer k) (nothing-held p rows h e)))
 
   -- cause 7 before any store
@@ -73,7 +74,8 @@ module _ (p : Setup) (rows : ℕ → Row) (h : Held) (e : decode isValue p (h .a
 
 -- ---- the theorems, for a call that neither cause 1 nor cause 9 refuses
 
-module _ (size mode ttl : ℕ) (plan : Bytes) (clock epoch : ℕ) (buffer : Bytes) (h : Held) (g : Settings) (c : checked size mode ttl (length (h .arena)) ≡ Fine g)
+module _ (size mode ttl : ℕ) (plan : Bytes) (clock epoch : ℕ) (buffer : Bytes) (h : Held) (g : Settings)
+    (c : checked size mode ttl (length (h .arena)) ≡ Fine g)
     (rows : ℕ → Row) (e : decode isValue (setupNow g) (h .arena) ≡ some rows) (p : nodes.Plan) (d : decodePlan plan ≡ some p) where
   abbrev answersOf : Option Values
   answersOf = servedAnswers (planRead p .commands)
@@ -111,7 +113,8 @@ module _ (size mode ttl : ℕ) (plan : Bytes) (clock epoch : ℕ) (buffer : Byte
 
   none-value : (transaction : Bool) → isValue (encode (noList transaction)) ≡ true
   unfolding encode digits
-  none-value true = value-law _ .1 (record { small = omega arith; v = noList true; means = record { ok = (tt, tt); deep = omega arith; is = unfold encode in refl } })
+  none-value true =
+      value-law _ .1 (record { small = omega arith; v = noList true; means = record { ok = (tt, tt); deep = omega arith; is = unfold encode in refl } })
   none-value false = value-law _ .1 (record { small = omega arith; v = noList false; means = record { ok = tt; deep = omega arith; is = refl } })
 
   none-decoded : (transaction : Bool) → resp.decode (encode (noList transaction)) ≡ noList transaction
@@ -123,7 +126,8 @@ module _ (size mode ttl : ℕ) (plan : Bytes) (clock epoch : ℕ) (buffer : Byte
 
   -- where all commands are served, resolving without replies answers the same
   pub served-alone : (vs : Values) → servedAnswers (planRead p .commands) ≡ some vs
-      → resolveCall size mode ttl plan noReplyBytes clock epoch buffer h ≡ returning (asResolving (servedCall plan (length buffer))) (servedBuffer plan buffer) h
+      → resolveCall size mode ttl plan noReplyBytes clock epoch buffer h
+      ≡ returning (asResolving (servedCall plan (length buffer))) (servedBuffer plan buffer) h
   served-alone vs s = served-resolves noReplyBytes (none-value (p .transaction)) none none-listed vs s
 
   -- and where some command needs replies, resolving without them is refused as 7

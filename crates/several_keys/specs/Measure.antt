@@ -85,7 +85,8 @@ part-in s v key w i h = (i, w .inside, h)
 -- that waits for a key, whose text is t
 module _ (s : Bytes) (v : Several) (key : Range) (w : SeveralIn s v) (i : RangeIn s key) (t : Bytes) (p : t ≡ rangeBytes s key) (n l : ℕ)
     (a : n ≡ 20 + length t + length (keyBytes s (Named (v .json) key (v .path)))) (b : l ≡ 5 + length (digits (length t)) + length t) where
-  pub more-waiting : (m : Measured) (q : Place) → q ≡ waiting (wantAt s v key) → More m q (record { missing = m .missing + 1; nodes = m .nodes + n; keys = m .keys + l })
+  pub more-waiting : (m : Measured) (q : Place) → q ≡ waiting (wantAt s v key)
+      → More m q (record { missing = m .missing + 1; nodes = m .nodes + n; keys = m .keys + l })
   unfolding missing placeNodes keysOf blobBytes encNode partKey
   more-waiting m q e =
       let W : Wanted = wantAt s v key in

@@ -140,13 +140,16 @@ module _ (what : Piece) (s : Bytes) where
       (c : Copied d₀ to all d next (pieces what (keysAt s f n))) where
     -- room for the first
     pub keys-room : next + length (pieceAt what (r .served) (rangeBytes s (r .key))) ≤ length d
-    keys-room = copied-room d₀ all d (pieceAt what (r .served) (rangeBytes s (r .key))) (pieces what (keysAt s f n)) (pieces what (keysAt s (r .rest) m)) to next (keys-more f n m r q w) c
+    keys-room =
+        copied-room d₀ all d (pieceAt what (r .served) (rangeBytes s (r .key))) (pieces what (keysAt s f n)) (pieces what (keysAt s (r .rest) m)) to next
+        (keys-more f n m r q w) c
 
     -- it is written
     pub keys-step : (d₁ : Bytes) (e : ℕ) → Wrote d next (pieceAt what (r .served) (rangeBytes s (r .key))) d₁ e
         → Copied d₀ to all d₁ e (pieces what (keysAt s (r .rest) m))
     keys-step d₁ e h =
-        copied-next d₀ all d d₁ (pieceAt what (r .served) (rangeBytes s (r .key))) (pieces what (keysAt s f n)) (pieces what (keysAt s (r .rest) m)) to next e (keys-more f n m r q w) (h .ends) (h .is) c
+        copied-next d₀ all d d₁ (pieceAt what (r .served) (rangeBytes s (r .key))) (pieces what (keysAt s f n))
+        (pieces what (keysAt s (r .rest) m)) to next e (keys-more f n m r q w) (h .ends) (h .is) c
 
   -- all are written
   pub keys-done : (d₀ all d : Bytes) (to next : ℕ) (f : Source) (n : ℕ) → n ≡ 0 → Copied d₀ to all d next (pieces what (keysAt s f n)) → Wrote d₀ to all d next

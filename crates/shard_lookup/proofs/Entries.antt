@@ -49,7 +49,8 @@ entry-fields {s} {at} {en} w =
     record {
       command-len = ap (readLe 4 s) at-0 ∙ field 0 ∙ command-length en (w .behind) (omega arith);
       value-len = field 4 ∙ value-length en (w .behind) (omega arith);
-      command = ap (λ (z : Bytes). part z (at + 16) (length (en .command))) (w .is) ∙ part-past (w .before) _ at 16 _ (w .starts) ∙ entry-command en (w .behind);
+      command =
+          ap (λ (z : Bytes). part z (at + 16) (length (en .command))) (w .is) ∙ part-past (w .before) _ at 16 _ (w .starts) ∙ entry-command en (w .behind);
       ends = omega arith;
       short = w .short;
     }
@@ -114,7 +115,8 @@ value-within it ef en eb q skip l =
     let k = length-item it in
     let b = i .starts in (
       omega arith,
-      ap (λ (j : ℕ). part (encItem it) j (length (en .value))) l ∙ ap (λ (z : Bytes). part z (32 + length (it .key) + entryBytes ef + (16 + length (en .command))) (length (en .value))) (i .is)
+      ap (λ (j : ℕ). part (encItem it) j (length (en .value))) l
+          ∙ ap (λ (z : Bytes). part z (32 + length (it .key) + entryBytes ef + (16 + length (en .command))) (length (en .value))) (i .is)
           ∙ part-past (i .before) _ _ (16 + length (en .command)) _ (i .starts) ∙ entry-value en (i .behind),
     )
 

@@ -24,7 +24,8 @@ use Rattle.shard_write.specs.Places.{newEntry, entryRoom, EntriesAt}
 use Rattle.shard_write.proofs.Changes.{entry-space}
 use Rattle.shard_store.specs.Replaces.{Replaces}
 
-module _ {s : Bytes} {at from to added : ℕ} {front back : Row} {it : Item} {ef em eb : List Entry} (w : Replaces s at from to added front back it ef em eb) where
+module _ {s : Bytes} {at from to added : ℕ} {front back : Row} {it : Item} {ef em eb : List Entry}
+    (w : Replaces s at from to added front back it ef em eb) where
   -- the item with other entries
   abbrev rowWith : List Entry → Row
   rowWith es = front ++ (itemOf (it .key) (it .epoch) (it .expiry) es ∷ back)

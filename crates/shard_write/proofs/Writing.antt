@@ -38,7 +38,8 @@ entry-written s c v at h =
 
 -- an item's head
 pub head-written : (s : Bytes) (at key count epoch expiry bytes : ℕ) → at + 32 ≤ length s
-    → put (put (put (put (put (put s at (le32 key)) (at + 4) (le32 count)) (at + 8) (le64 epoch)) (at + 16) (le64 expiry)) (at + 24) (le32 bytes)) (at + 28) (le32 0)
+    → put (put (put (put (put (put s at (le32 key)) (at + 4) (le32 count)) (at + 8) (le64 epoch)) (at + 16) (le64 expiry)) (at + 24) (le32 bytes))
+    (at + 28) (le32 0)
     ≡ put s at (itemHead key count epoch expiry bytes)
 unfolding itemHead le
 head-written s at key count epoch expiry bytes h =

@@ -41,7 +41,8 @@ module _ (g : Settings) (s : Bytes) (rows : ℕ → Row) (w : Lent g s rows) (k 
   -- a lookup left the bytes u and answered r
   abbrev Looks : Bytes → Looked → Type 0
   Looks u r =
-      (u ≡ encShard (length (lentPart g s from)) (lookupOn k c t e (rows (shardOf k (g .shards))) .row)) × Told u (lookupOn k c t e (rows (shardOf k (g .shards)))) r
+      (u ≡ encShard (length (lentPart g s from)) (lookupOn k c t e (rows (shardOf k (g .shards))) .row))
+      × Told u (lookupOn k c t e (rows (shardOf k (g .shards)))) r
       × BeginsAt (shardPlace k c (lookupOn k c t e (rows (shardOf k (g .shards))) .row)) r
 
   looks-long : (u : Bytes) (r : Looked) → Looks u r → length u ≡ g .bytes
@@ -53,7 +54,8 @@ module _ (g : Settings) (s : Bytes) (rows : ℕ → Row) (w : Lent g s rows) (k 
       subst (λ (n : ℕ). Within n r) (looks-long u r l) (told-within u (lookupOn k c t e (rows (shardOf k (g .shards)))) r (l .1))
 
   -- a place in the shard's row that it leaves, as a place in all rows that it leaves
-  place-back : from + shardPlace k c (lookupOn k c t e (rows (shardOf k (g .shards))) .row) ≡ arenaPlace (setupNow g) k c (rowsAfter (setupNow g) (on (lookup k c t e)) rows)
+  place-back : from + shardPlace k c (lookupOn k c t e (rows (shardOf k (g .shards))) .row)
+      ≡ arenaPlace (setupNow g) k c (rowsAfter (setupNow g) (on (lookup k c t e)) rows)
   unfolding effectOn setupOf keyOf rowsAfter arenaPlace
   place-back =
       ap (λ (i : ℕ). i + shardPlace k c (lookupOn k c t e (rows (shardOf k (g .shards))) .row)) a

@@ -40,7 +40,8 @@ cleared-more n rows =
     fun-ext
     (λ i.
     byTest (eqb i n)
-    (λ e. let q = eqb-true i n e in ap (λ (j : ℕ). setRow n [] (cleared n rows) j) q ∙ row-here n [] (cleared n rows) ∙ sym (rw (lt-ltb i (suc n) (omega arith))))
+    (λ e. let q = eqb-true i n e in
+    ap (λ (j : ℕ). setRow n [] (cleared n rows) j) q ∙ row-here n [] (cleared n rows) ∙ sym (rw (lt-ltb i (suc n) (omega arith))))
     (λ e.
     let q = eqb-false i n e in
     row-elsewhere n i [] (cleared n rows) e

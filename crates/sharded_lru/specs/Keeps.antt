@@ -24,7 +24,8 @@ pub may-store : (k c v : Bytes) (x e : ℕ) → Storable k c v → isValue v ≡
 unfolding mayStore
 may-store k c v x e w i h l = (yes-every _ (le-leb _ _ (w .key), (le-leb _ _ (w .command), (i, tt))), h, l)
 
-set-fits : (k c v : Bytes) (ens : List Entry) → mayStore isValue k c v ≡ true → StorableEntries (mayStore isValue) k ens → StorableEntries (mayStore isValue) k (setValue c v ens)
+set-fits : (k c v : Bytes) (ens : List Entry) → mayStore isValue k c v ≡ true → StorableEntries (mayStore isValue) k ens
+    → StorableEntries (mayStore isValue) k (setValue c v ens)
 unfolding setValue
 set-fits k c v [] g w = (g, tt)
 set-fits k c v (en ∷ ens) g w =

@@ -25,7 +25,8 @@ told-within t f (Hit from to) w = (w .0, w .1)
 told-within t f (Miss n) w = tt
 
 -- what is told of the bytes t is told of bytes that they are a part of
-pub told-placed : (s t : Bytes) (start : ℕ) (f : Effect) (r : Looked) → start + length t ≤ length s → ((i n : ℕ) → i + n ≤ length t → part s (start + i) n ≡ part t i n)
+pub told-placed : (s t : Bytes) (start : ℕ) (f : Effect) (r : Looked) → start + length t ≤ length s
+    → ((i n : ℕ) → i + n ≤ length t → part s (start + i) n ≡ part t i n)
     → Told t f r → Told s f (placedAt start r)
 told-placed s t start f (Hit from to) h e w =
     let a = w .0 in

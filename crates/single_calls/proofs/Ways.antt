@@ -15,7 +15,8 @@ use Rattle.config.specs.declared.CheckedConfig.{CheckedConfig}
 use Rattle.config.specs.declared.CheckedConfig.the-variants.{Fine, Refused as BadConfig}
 use Rattle.statistics.specs.declared.Statistics.{Statistics}
 use Rattle.resp3.specs.Ends.{isValue}
-use Rattle.book.specs.Book.{Setup, Row, Counts, plus, count, Answer, stored, noSpace as spaceless, invalidated, Keyed, lookup, on, put, effect, after, afterAll, answerTo}
+use Rattle.book.specs.Book.{Setup, Row, Counts, plus, count, Answer, stored, noSpace as spaceless, invalidated, Keyed, lookup, on, put, effect}
+use Rattle.book.specs.Book.{after, afterAll, answerTo}
 use Rattle.book.specs.Calls.{ons, call-defs}
 use Rattle.arena.specs.Layout.{encode}
 use Rattle.arena.specs.Decode.{readArena, decode}
@@ -99,7 +100,8 @@ module _ (d : Return) (n : ℕ) (some-cause : eqb n noCause ≡ false) (s : Byte
         counts = refl;
       })
 
-  pub invalidation-refused : (c : Statistics) (next : ℕ) → d ≡ refusedAs n (holding s (countsOf c) next) → InvalidationLeft d s (record { answer = Refused n; counts = c })
+  pub invalidation-refused : (c : Statistics) (next : ℕ) → d ≡ refusedAs n (holding s (countsOf c) next)
+      → InvalidationLeft d s (record { answer = Refused n; counts = c })
   invalidation-refused c next e =
       rw e (record { answer = refused-is (refusedAs n (holding s (countsOf c) next)) n some-cause refl; cause = refl; arena = refl; counts = refl })
 
@@ -131,7 +133,8 @@ Gets g u rows k t e r c =
     × BeginsAt (arenaPlace (setupNow g) k c (rowsAfter (setupNow g) (on (lookup k c t e)) rows)) r
 
 -- one of a command key that is all of its source
-pub whole-get : (g : Settings) (u : Bytes) (rows : ℕ → Row) (k c : Bytes) (t e : ℕ) (r : Looked) → Gets g u rows k t e r (keyBytes c (wholeKey c)) → Gets g u rows k t e r c
+pub whole-get : (g : Settings) (u : Bytes) (rows : ℕ → Row) (k c : Bytes) (t e : ℕ) (r : Looked) → Gets g u rows k t e r (keyBytes c (wholeKey c))
+    → Gets g u rows k t e r c
 whole-get g u rows k c t e r w = subst (Gets g u rows k t e r) (whole-bytes c) w
 
 -- a call that neither 3 nor 6 refuses found the arena s and left u
@@ -171,7 +174,8 @@ module _ (g : Settings) (s u : Bytes) (rows : ℕ → Row) (q : Keyed) (next : �
       record { answer = refused-is (here lent) noSpace refl n; cause = n; arena = arena-is lent }
 
   -- the rows that it left are read from its arena, so that the place of a value served is the place in them
-  place-is : (lent : Counts) (k c v : Bytes) → some v ≡ here lent .value → arenaPlace (setupNow g) k c (rowsAfter (setupNow g) (on q) rows) ≡ placeLeft (setupNow g) k c (here lent)
+  place-is : (lent : Counts) (k c v : Bytes) → some v ≡ here lent .value
+      → arenaPlace (setupNow g) k c (rowsAfter (setupNow g) (on q) rows) ≡ placeLeft (setupNow g) k c (here lent)
   unfolding placeLeft servedAt placeIn
   place-is lent k c v e =
       let d : decode isValue (setupNow g) u ≡ some (rowsAfter (setupNow g) (on q) rows) = decodes isValue (setupNow g) u (sized g u _ w) _ .1 (w .image) in

@@ -38,10 +38,12 @@ looked-formed : (p : Setup) → Proper p → (k c : Bytes) (t e : ℕ) (bk : Boo
 unfolding callOf call-defs ons afterAll after put effect answers keyOf
 looked-formed p o k c t e bk w =
     byTest (overlong (lookup k c t e)) (λ a. rw a w)
-    (λ a. rw a (unfold wrongBytes in formed-set p (p .shardOf k) _ (bk .rows) (o .in-range k) (fine-effect p (o .some-key) (lookup k c t e) _ tt (w .fine (p .shardOf k))) w))
+    (λ a. rw a (unfold wrongBytes in
+    formed-set p (p .shardOf k) _ (bk .rows) (o .in-range k) (fine-effect p (o .some-key) (lookup k c t e) _ tt (w .fine (p .shardOf k))) w))
 
 -- the place on the arena that encodes the book's rows
-pub lookup-place : (size mode ttl n : ℕ) (g : Settings) → checked size mode ttl n ≡ Fine g → (k c : Bytes) (t e : ℕ) (bk : Book) → WellFormed isValue (setupNow g) (bk .rows)
+pub lookup-place : (size mode ttl n : ℕ) (g : Settings) → checked size mode ttl n ≡ Fine g → (k c : Bytes) (t e : ℕ) (bk : Book)
+    → WellFormed isValue (setupNow g) (bk .rows)
     → let b : Call = callOf (lookup k c t e) in
     lookupPlace size mode ttl k c t e (lend (setupNow g) n bk)
     ≡ servedAt (outcomeValue (outcomeOf (replyTo (setupNow g) b bk))) (arenaPlace (setupNow g) k c (afterCall (setupNow g) b bk .rows))
@@ -54,7 +56,8 @@ lookup-place size mode ttl n g q k c t e bk w =
     let o : Proper p = proper sipHash13 size mode ttl n g ok in
     let l : length (lend p n bk .arena) ≡ n = unfold lend in encoded-length isValue p n z (bk .rows) w in
     let f : checked size mode ttl (length (lend p n bk .arena)) ≡ Fine g = ap (checked size mode ttl) l ∙ q in
-    let d : singleCall size mode ttl (lookup k c t e) (lend p n bk) ≡ returned (lookup k c t e) (record { outcome = outcomeOf (replyTo p b bk); held = lend p n (afterCall p b bk) }) =
+    let d : singleCall size mode ttl (lookup k c t e) (lend p n bk)
+    ≡ returned (lookup k c t e) (record { outcome = outcomeOf (replyTo p b bk); held = lend p n (afterCall p b bk) }) =
     as-call size mode ttl (lookup k c t e) (lend p n bk) g f ∙ ap (returned (lookup k c t e)) (one-call isValue p n z o b bk w) in
     let r : decode isValue p (lend p n (afterCall p b bk) .arena) ≡ some (afterCall p b bk .rows) =
     unfold lend in decode-encode isValue p n z (afterCall p b bk .rows) (looked-formed p o k c t e bk w) in
@@ -71,7 +74,8 @@ module _ (s : Bytes) (a b : Counts) (m n : ℕ) (q : Keyed) where
   unfolding imaged
   rows-alike p rows =
       byTest (overlong q) (λ t. rw t (refl, refl))
-      (λ t. byTest (wrongBytes q) (λ u. rw (t, u) (refl, refl)) (λ u. rw (t, u) (unfold calledOn answerTo effect lend call-defs ons afterAll after put in (refl, refl))))
+      (λ t. byTest (wrongBytes q) (λ u. rw (t, u) (refl, refl))
+      (λ u. rw (t, u) (unfold calledOn answerTo effect lend call-defs ons afterAll after put in (refl, refl))))
 
   -- the call by the outcome of cause 1's test
   abbrev by : CheckedConfig → Held → Return
@@ -91,8 +95,10 @@ pub place-alike : (size mode ttl : ℕ) (k c : Bytes) (t e : ℕ) (s : Bytes) (a
 unfolding lookupPlace singleCall
 place-alike size mode ttl k c t e s a b m n = go (checked size mode ttl (length s))
   where
-    go : (f : CheckedConfig) → placeUnder f k c (by s a b m n (lookup k c t e) f (holding s a m)) ≡ placeUnder f k c (by s a b m n (lookup k c t e) f (holding s b n))
+    go : (f : CheckedConfig) → placeUnder f k c (by s a b m n (lookup k c t e) f (holding s a m))
+        ≡ placeUnder f k c (by s a b m n (lookup k c t e) f (holding s b n))
     go BadConfig = unfold placeUnder in refl
     go (Fine g) =
         let l = call-alike s a b m n (lookup k c t e) (Fine g) in
-        unfold placeUnder placeLeft in ap₂ (λ (v : Option Bytes) (u : Bytes). servedAt v (placeIn (setupNow g) k c (decode isValue (setupNow g) u))) (l .0) (l .1)
+        unfold placeUnder placeLeft in
+        ap₂ (λ (v : Option Bytes) (u : Bytes). servedAt v (placeIn (setupNow g) k c (decode isValue (setupNow g) u))) (l .0) (l .1)

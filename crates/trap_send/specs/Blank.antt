@@ -119,14 +119,16 @@ module _ (g : Settings) (t e : ℕ) (s : Bytes) (h : Head) (l : length s ≤ max
     -- as many wait as there are keys
     number : v .keys ≡ length (plan.missing (placesOn (setupNow g) noRows t e (wantedIn s v)))
     number =
-        sym (ap length (all-missing g t e (wantedIn s v)) ∙ parts-count (severalName (v .json)) (pathIn s v) (keysIn s v) ∙ length-take-le (v .keys) _ (i .enough))
+        sym (ap length (all-missing g t e (wantedIn s v)) ∙ parts-count (severalName (v .json)) (pathIn s v) (keysIn s v)
+        ∙ length-take-le (v .keys) _ (i .enough))
 
     outcome-is : outcomeFor (setupNow g) noRows t e g c ≡ plan.item (severalItem (setupNow g) noRows t e s v x)
     outcome-is = outcome-several (setupNow g) noRows t e g c s v x q
 
     -- none
     pub waits-none : (f : Source) → v .keys ≡ 0 → Waits g t e s h (record { result = Item (Cached (Values v)); keys = f })
-    waits-none f z = waits-told _ (tells-item (setupNow g) noRows t e s [] g c _ _ outcome-is (several-served (setupNow g) noRows t e s [] c v i x (v .keys) number z)) tt
+    waits-none f z =
+        waits-told _ (tells-item (setupNow g) noRows t e s [] g c _ _ outcome-is (several-served (setupNow g) noRows t e s [] c v i x (v .keys) number z)) tt
 
     -- some
     pub waits-several : (v .keys ≡ 0 → ⊥) → Waits g t e s h (record { result = Item (NotCached (Multiple v (v .keys) x)); keys = Keys (v .args) })

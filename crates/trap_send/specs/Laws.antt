@@ -120,7 +120,8 @@ module _ (s f a : Bytes) (g : Settings) (k : Commands) (q : k ≡ commandCursor 
                 let i : m ≡ length S = omega arith in
                 let v : f′ ≡ put f 0 S = w .is ∙ ap (put f 0) (sym y) in
                 let z = all-written 0 0 s d f (held a n next) g rows (recordAt s) on-time
-                (or-no (ltb (length d) (length planLong)) (ltb (length f) (length S)) (le-ltb (length d) (length planLong) h) (ap (λ (z : Bytes). ltb (length f) (length z)) y ∙ x)) in
+                (or-no (ltb (length d) (length planLong)) (ltb (length f) (length S)) (le-ltb (length d) (length planLong) h)
+                (ap (λ (z : Bytes). ltb (length f) (length z)) y ∙ x)) in
                 ap₂ (λ (q : ℕ) (z : Bytes). output (Front q) z) i v ∙ sym (ap outputOf z);
           }
 
@@ -153,7 +154,8 @@ module _ (s f : Bytes) (a : Bytes) (g : Settings) (rows : ℕ → Row) (n : Coun
   record-wrong o q = settles-all _ _ (λ d. ap outputOf (paths.bad-record 0 0 s d f (held a n next) g rows (omega arith) o q))
 
   -- a record that is one is planned
-  pub record-fine : checkDef s ≡ Fine → (z : Output) → Settles (λ d. outputOf (recorded 0 0 s d f (held a n next) g rows (recordAt s))) z → Settles admittedWith z
+  pub record-fine : checkDef s ≡ Fine → (z : Output) → Settles (λ d. outputOf (recorded 0 0 s d f (held a n next) g rows (recordAt s))) z
+      → Settles admittedWith z
   record-fine q z w = settles-as _ _ z (λ d. ap outputOf (paths.good-record 0 0 s d f (held a n next) g rows (omega arith) q)) w
 
 -- ---- the whole

@@ -78,7 +78,8 @@ module _ (g : Settings) (a s : Bytes) (t e : ℕ) where
         }
 
     -- none is left
-    pub counted-end : (q₀ : Room) (m at : ℕ) (q : Room) → m ≡ 0 → Counted q₀ m at q → (rows : ℕ → Row) → Lent g a rows → q ≡ spent q₀ (length (sentAt m₀ at₀ rows))
+    pub counted-end : (q₀ : Room) (m at : ℕ) (q : Room) → m ≡ 0 → Counted q₀ m at q → (rows : ℕ → Row) → Lent g a rows
+        → q ≡ spent q₀ (length (sentAt m₀ at₀ rows))
     counted-end q₀ m at q z w rows o = sym (w .left rows o ∙ spent-none q (length (sentAt m at rows)) (ap length (sent-end m at z rows)))
 
     -- ---- bytes written
@@ -95,7 +96,9 @@ module _ (g : Settings) (a s : Bytes) (t e : ℕ) where
     module _ (d₀ : Bytes) (to₀ m n at x : ℕ) (h : Head) (k : m ≡ n + 1) (i : h ≡ headAt s at) (d : Bytes) (to : ℕ) where
       -- there is room for the first
       pub writing-room : x ≡ commandNext s at → Writing d₀ to₀ m at d to → Fits g a (λ rows. sentFor (setupNow g) rows t e g (commandOf s h)) to (length d)
-      writing-room f w = λ rows o. room-first (sentAt m at rows) (first m n at x h k i f rows) (sentAt n x rows) to (length d) (sent-more m n at x h k i f rows) (w .room rows o)
+      writing-room f w =
+          λ rows o. room-first (sentAt m at rows) (first m n at x h k i f rows) (sentAt n x rows) to (length d) (sent-more m n at x h k i f rows)
+          (w .room rows o)
 
       -- one command further
       pub writing-next : (f : x ≡ commandNext s at) → Arena g a → (d₁ : Bytes) (to₁ : ℕ) → Puts g a (first m n at x h k i f) d to d₁ to₁
@@ -104,12 +107,15 @@ module _ (g : Settings) (a s : Bytes) (t e : ℕ) where
           let l = wrote-long d d₁ (first m n at x h k i f (v .rows)) to to₁ (writing-room f w (v .rows) (v .lent)) (z (v .rows) (v .lent)) in
           record {
             ahead = planable-next g t s m n at k (w .ahead) x f;
-            room = λ rows o. room-second d d₁ (sentAt m at rows) (first m n at x h k i f rows) (sentAt n x rows) to to₁ (sent-more m n at x h k i f rows) (w .room rows o) (z rows o);
+            room =
+                λ rows o. room-second d d₁ (sentAt m at rows) (first m n at x h k i f rows) (sentAt n x rows) to to₁ (sent-more m n at x h k i f rows)
+                (w .room rows o) (z rows o);
             long = l ∙ w .long;
             goes = λ d′ e′ y.
                 w .goes d′ e′
                 (λ rows o.
-                wrote-both d d₁ d′ (sentAt m at rows) (first m n at x h k i f rows) (sentAt n x rows) to to₁ e′ (sent-more m n at x h k i f rows) (w .room rows o) (z rows o) (y rows o));
+                wrote-both d d₁ d′ (sentAt m at rows) (first m n at x h k i f rows) (sentAt n x rows) to to₁ e′ (sent-more m n at x h k i f rows)
+                (w .room rows o) (z rows o) (y rows o));
           }
 
     -- none is left

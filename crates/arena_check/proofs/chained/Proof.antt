@@ -33,17 +33,20 @@ abbrev μ-loop2 : tie.MeasureT-loop2
 μ-loop2 s h f m n first last prev place at₀ i₀ end at i = n - i
 
 -- within a loop the thing at `at` is within the bytes
-inside : (c : tie.In-loop Inv-loop μ-loop Inv-loop2 μ-loop2) → let a = c .before .before .before .before .before .before .args in nextIn (a .h) (a .f) (a .s .now) (c .before .loop .at) ≤ length (a .s .now)
+inside : (c : tie.In-loop Inv-loop μ-loop Inv-loop2 μ-loop2) → let a = c .before .before .before .before .before .before .args in
+    nextIn (a .h) (a .f) (a .s .now) (c .before .loop .at) ≤ length (a .s .now)
 inside c =
     let a = c .before .before .before .before .before .before .args in
     let l = c .before .loop in
     stands-at (a .h) (a .f) (a .s .now) (a .n) (a .first) (l .at) (l .i) (c .before .before .before .before .before .before .pre .0) (l .inv .1) (omega arith)
 
-inside2 : (c : tie.In-loop2 Inv-loop μ-loop Inv-loop2 μ-loop2) → let a = c .before .before .before .before .before .before .before .before .args in nextIn (a .h) (a .f) (a .s .now) (c .before .loop2 .at) ≤ length (a .s .now)
+inside2 : (c : tie.In-loop2 Inv-loop μ-loop Inv-loop2 μ-loop2) → let a = c .before .before .before .before .before .before .before .before .args in
+    nextIn (a .h) (a .f) (a .s .now) (c .before .loop2 .at) ≤ length (a .s .now)
 inside2 c =
     let a = c .before .before .before .before .before .before .before .before .args in
     let l = c .before .loop2 in
-    stands-at (a .h) (a .f) (a .s .now) (a .n) (a .first) (l .at) (l .i) (c .before .before .before .before .before .before .before .before .pre .0) (l .inv .2) (omega arith)
+    stands-at (a .h) (a .f) (a .s .now) (a .n) (a .first) (l .at) (l .i) (c .before .before .before .before .before .before .before .before .pre .0)
+    (l .inv .2) (omega arith)
 
 loop-holds : tie.Need-loop-holds Inv-loop μ-loop Inv-loop2 μ-loop2
 loop-holds c =

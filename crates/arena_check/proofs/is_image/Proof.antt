@@ -24,31 +24,29 @@ Inv-loop arena shards keys bytes all i₀ i =
 abbrev μ-loop : tie.MeasureT-loop
 μ-loop arena shards keys bytes all i₀ i = i
 
--- src/lib.rt:228:15
 mul-all : tie.Need-mul-all Inv-loop μ-loop
 mul-all c = omega arith
 
--- src/lib.rt:229:9
 all-zero-requires : tie.Need-all-zero-requires Inv-loop μ-loop
 all-zero-requires c κs = omega arith
 
--- src/lib.rt:230:9
 returns : tie.Need-returns Inv-loop μ-loop
 returns c =
     let a = c .before .before .before .args in
-    sym (image-rest (a .shards) (a .keys) (a .bytes) (a .arena .now) (λ i. c .before .before .shared-slice-known .given i .fits) (omega arith) (omega arith) (omega arith) (rest-read (a .arena .now) _ _ (c .before .all-zero .ensures) ∙ not-true _ (c .if1 .taken)))
+    sym (image-rest (a .shards) (a .keys) (a .bytes) (a .arena .now) (λ i. c .before .before .shared-slice-known .given i .fits) (omega arith)
+    (omega arith) (omega arith) (rest-read (a .arena .now) _ _ (c .before .all-zero .ensures) ∙ not-true _ (c .if1 .taken)))
 
--- src/lib.rt:233:5
 loop-holds : tie.Need-loop-holds Inv-loop μ-loop
 loop-holds c =
-    let a = c .before .before .before .args in
-    (omega arith, image-shards (a .shards) (a .keys) (a .bytes) (a .arena .now) (λ i. c .before .before .shared-slice-known .given i .fits) (omega arith) (omega arith) (omega arith) (rest-read (a .arena .now) _ _ (c .before .all-zero .ensures) ∙ not-false _ (c .if1 .left)))
+    let a = c .before .before .before .args in (
+      omega arith,
+      image-shards (a .shards) (a .keys) (a .bytes) (a .arena .now) (λ i. c .before .before .shared-slice-known .given i .fits) (omega arith)
+          (omega arith) (omega arith) (rest-read (a .arena .now) _ _ (c .before .all-zero .ensures) ∙ not-false _ (c .if1 .left)),
+    )
 
--- src/lib.rt:234:9
 sub-i : tie.Need-sub-i Inv-loop μ-loop
 sub-i c = omega arith
 
--- src/lib.rt:235:20
 mul-from : tie.Need-mul-from Inv-loop μ-loop
 mul-from c =
     let a = c .before .before .before .before .before .args in
@@ -56,7 +54,6 @@ mul-from c =
     let t = within-all (l .i - 1) (a .shards) (a .bytes) (omega arith) in
     omega arith
 
--- src/lib.rt:236:18
 add-to : tie.Need-add-to Inv-loop μ-loop
 add-to c =
     let a = c .before .before .before .before .before .args in
@@ -64,7 +61,6 @@ add-to c =
     let t = within-all (l .i - 1) (a .shards) (a .bytes) (omega arith) in
     omega arith
 
--- src/lib.rt:237:22
 sub-shard-ok : tie.Need-sub-shard-ok Inv-loop μ-loop
 sub-shard-ok c =
     let a = c .before .before .before .before .before .args in
@@ -72,7 +68,6 @@ sub-shard-ok c =
     let t = within-all (l .i - 1) (a .shards) (a .bytes) (omega arith) in
     omega arith
 
--- src/lib.rt:237:22
 part-shard-ok-start : tie.Need-part-shard-ok-start Inv-loop μ-loop
 part-shard-ok-start c =
     let a = c .before .before .before .before .before .args in
@@ -80,7 +75,6 @@ part-shard-ok-start c =
     let t = within-all (l .i - 1) (a .shards) (a .bytes) (omega arith) in
     omega arith
 
--- src/lib.rt:237:22
 part-shard-ok-end : tie.Need-part-shard-ok-end Inv-loop μ-loop
 part-shard-ok-end c =
     let a = c .before .before .before .before .before .args in
@@ -88,7 +82,6 @@ part-shard-ok-end c =
     let t = within-all (l .i - 1) (a .shards) (a .bytes) (omega arith) in
     omega arith
 
--- src/lib.rt:237:13
 shard-ok-requires : tie.Need-shard-ok-requires Inv-loop μ-loop
 shard-ok-requires c κs =
     let a = c .before .before .before .before .before .before .args in
@@ -97,25 +90,27 @@ shard-ok-requires c κs =
     let n = lent-length (a .arena .now) ((l .i - 1) * a .bytes) (a .bytes) (omega arith) in
     (omega arith, omega arith, omega arith)
 
--- src/lib.rt:238:13
 returns-2 : tie.Need-returns-2 Inv-loop μ-loop
 returns-2 c =
     let a = c .before .before .before .before .before .before .before .before .args in
     let l = c .before .before .before .before .loop in
-    sym (l .inv .1 ∙ shards-bad isValue (homeIn (a .shards)) (a .keys) (a .bytes) (a .arena .now) (l .i) (omega arith) (shard-read isValue (homeIn (a .shards)) (a .keys) (a .bytes) (a .arena .now) (l .i - 1) _ (c .before .shard-ok .ensures) ∙ not-true _ (c .if2 .taken)))
+    sym (l .inv .1 ∙ shards-bad isValue (homeIn (a .shards)) (a .keys) (a .bytes) (a .arena .now) (l .i) (omega arith)
+    (shard-read isValue (homeIn (a .shards)) (a .keys) (a .bytes) (a .arena .now) (l .i - 1) _ (c .before .shard-ok .ensures)
+    ∙ not-true _ (c .if2 .taken)))
 
--- src/lib.rt:233:5
 loop-less : tie.Need-loop-less Inv-loop μ-loop
 loop-less c = omega arith
 
--- src/lib.rt:233:5
 loop-again : tie.Need-loop-again Inv-loop μ-loop
 loop-again c =
     let a = c .before .before .before .before .before .before .before .before .args in
-    let l = c .before .before .before .before .loop in
-    (omega arith, l .inv .1 ∙ shards-good isValue (homeIn (a .shards)) (a .keys) (a .bytes) (a .arena .now) (l .i) (omega arith) (shard-read isValue (homeIn (a .shards)) (a .keys) (a .bytes) (a .arena .now) (l .i - 1) _ (c .before .shard-ok .ensures) ∙ not-false _ (c .if2 .left)))
+    let l = c .before .before .before .before .loop in (
+      omega arith,
+      l .inv .1 ∙ shards-good isValue (homeIn (a .shards)) (a .keys) (a .bytes) (a .arena .now) (l .i) (omega arith)
+          (shard-read isValue (homeIn (a .shards)) (a .keys) (a .bytes) (a .arena .now) (l .i - 1) _ (c .before .shard-ok .ensures)
+          ∙ not-false _ (c .if2 .left)),
+    )
 
--- src/lib.rt:224:1
 returns-3 : tie.Need-returns-3 Inv-loop μ-loop
 returns-3 c =
     let a = c .before .before .before .before .before .args in

@@ -65,7 +65,8 @@ cast-n c = search needs
 returns-4 : tie.Need-returns-4
 returns-4 c =
     let a = c .before .before .before .before .before .before .before .before .before .args in
-    let home = home-read (a .shards) (a .shard) _ _ _ _ (c .before .before .before .before .before .before .before .before .before .pre .4) (c .before .before .before .home-of .ensures)
+    let home = home-read (a .shards) (a .shard) _ _ _ _ (c .before .before .before .before .before .before .before .before .before .pre .4)
+    (c .before .before .before .home-of .ensures)
     (eq-eqb _ (a .shard) (c .before .before .if3 .left)) in
     sym (item-empty isValue (homeIn (a .shards)) (a .s .now) (a .shard) (a .end) (a .at) (omega arith) (omega arith)
     (zero-read 4 (a .s .now) (a .at + 28) _ (omega arith) (c .before .before .before .before .before .before .before .read-u32 .ensures) ∙ eq-eqb _ 0
@@ -86,7 +87,9 @@ entries-end-requires c κs = let e = c .next-place .ensures in omega arith
 returns-5 : tie.Need-returns-5
 returns-5 c =
     let a = c .before .before .before .before .before .before .before .before .before .before .before .args in
-    let home = home-read (a .shards) (a .shard) _ _ _ _ (c .before .before .before .before .before .before .before .before .before .before .before .pre .4) (c .before .before .before .before .before .home-of .ensures)
+    let home = home-read (a .shards) (a .shard) _ _ _ _
+    (c .before .before .before .before .before .before .before .before .before .before .before .pre .4)
+    (c .before .before .before .before .before .home-of .ensures)
     (eq-eqb _ (a .shard) (c .before .before .before .before .if3 .left)) in
     ends-read (a .s .now) (a .at) _ _ _ _ (c .before .before .before .before .before .before .before .read-u322 .ensures)
     (c .before .before .before .read-u323 .ensures) (c .before .next-place .ensures) (c .entries-end .ensures)

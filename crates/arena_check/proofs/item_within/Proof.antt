@@ -9,49 +9,40 @@ use Rattle.arena_check.proofs.item_within.Reads as reads
 use Rattle.arena_check.proofs.item_within.Lts as lts
 use Rattle.buffer.proofs.read_u32.Reads as read-u32-reads
 
--- src/lib.rt:109:8
 sub-if1 : tie.Need-sub-if1
 sub-if1 c = search needs
 
--- src/lib.rt:110:9
 returns : tie.Need-returns
 returns c = let a = c .before .before .args in sym (within-short (a .s .now) (a .end) (a .at) (omega arith))
 
--- src/lib.rt:112:13
 read-u32-requires : tie.Need-read-u32-requires
 read-u32-requires c κs = search needs
 
--- src/lib.rt:112:13
 cast-k : tie.Need-cast-k
 cast-k c = search needs
 
--- src/lib.rt:113:33
 add-read-u32 : tie.Need-add-read-u32
 add-read-u32 c = search needs
 
--- src/lib.rt:113:13
 read-u32-requires-2 : tie.Need-read-u32-requires-2
 read-u32-requires-2 c κs = search needs
 
--- src/lib.rt:113:13
 cast-e : tie.Need-cast-e
 cast-e c = search needs
 
--- src/lib.rt:114:5
 add-result : tie.Need-add-result
 add-result c = search needs
 
--- src/lib.rt:114:5
 add-result-2 : tie.Need-add-result-2
 add-result-2 c = search needs
 
--- src/lib.rt:114:5
 add-result-3 : tie.Need-add-result-3
 add-result-3 c = search needs
 
--- src/lib.rt:105:1
 returns-2 : tie.Need-returns-2
-returns-2 c = let a = c .before .before .before .before .args in within-read (a .s .now) (a .end) (a .at) _ _ (omega arith) (c .before .read-u32 .ensures) (c .read-u322 .ensures)
+returns-2 c =
+    let a = c .before .before .before .before .args in
+    within-read (a .s .now) (a .end) (a .at) _ _ (omega arith) (c .before .read-u32 .ensures) (c .read-u322 .ensures)
 
 pub item-within-spec : {M : Type 1} → statement M
 item-within-spec =

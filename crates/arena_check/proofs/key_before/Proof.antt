@@ -33,19 +33,15 @@ turn c =
     subst (λ (i : ℕ). nextIn (a .h) (a .f) (a .s .now) i ≤ length (a .s .now)) (sym (l .inv .1))
     (c .before .before .before .before .pre .0 (l .k) (omega arith))
 
--- src/lib.rt:32:15
 add-key : tie.Need-add-key Inv-loop μ-loop
 add-key c = omega arith
 
--- src/lib.rt:33:15
 read-u32-requires : tie.Need-read-u32-requires Inv-loop μ-loop
 read-u32-requires c κs = omega arith
 
--- src/lib.rt:33:15
 cast-len : tie.Need-cast-len Inv-loop μ-loop
 cast-len c = omega arith
 
--- src/lib.rt:36:5
 loop-holds : tie.Need-loop-holds Inv-loop μ-loop
 loop-holds c =
     let a = c .before .before .args in (
@@ -54,23 +50,18 @@ loop-holds c =
       ap (λ (i : ℕ). before (keyIn (a .h) (a .s .now)) (nextIn (a .h) (a .f) (a .s .now)) i (a .from) (a .at)) (sym (sub-zero (a .n))),
     )
 
--- src/lib.rt:37:17
 read-u32-requires-2 : tie.Need-read-u32-requires-2 Inv-loop μ-loop
 read-u32-requires-2 c κs = let t = turn c in omega arith
 
--- src/lib.rt:37:17
 cast-m : tie.Need-cast-m Inv-loop μ-loop
 cast-m c = let t = turn (c .before) in omega arith
 
--- src/lib.rt:38:25
 add-same-part : tie.Need-add-same-part Inv-loop μ-loop
 add-same-part c = let t = turn (c .before) in omega arith
 
--- src/lib.rt:38:12
 same-part-requires : tie.Need-same-part-requires Inv-loop μ-loop
 same-part-requires c κs = let t = turn (c .before) in omega arith
 
--- src/lib.rt:39:13
 returns : tie.Need-returns Inv-loop μ-loop
 returns c =
     let a = c .before .before .before .before .before .before .before .args in
@@ -80,39 +71,30 @@ returns c =
     (c .before .before .before .before .before .read-u32 .ensures) (c .before .same-part .ensures) ∙ c .if1 .taken in
     sym (l .inv .2 ∙ before-hit (keyIn (a .h) (a .s .now)) (nextIn (a .h) (a .f) (a .s .now)) (a .n) (l .k) (l .p) (a .at) (omega arith) hit)
 
--- src/lib.rt:41:13
 add-p : tie.Need-add-p Inv-loop μ-loop
 add-p c = let t = turn (c .before .before .before) in omega arith
 
--- src/lib.rt:41:13
 add-p-2 : tie.Need-add-p-2 Inv-loop μ-loop
 add-p-2 c = let t = turn (c .before .before .before) in omega arith
 
--- src/lib.rt:41:45
 add-read-u32 : tie.Need-add-read-u32 Inv-loop μ-loop
 add-read-u32 c = let t = turn (c .before .before .before) in omega arith
 
--- src/lib.rt:41:25
 read-u32-requires-3 : tie.Need-read-u32-requires-3 Inv-loop μ-loop
 read-u32-requires-3 c κs = let t = turn (c .before .before .before) in omega arith
 
--- src/lib.rt:41:25
 cast-p : tie.Need-cast-p Inv-loop μ-loop
 cast-p c = let t = turn (c .before .before .before .before) in omega arith
 
--- src/lib.rt:41:13
 add-p-3 : tie.Need-add-p-3 Inv-loop μ-loop
 add-p-3 c = let t = turn (c .before .before .before .before) in omega arith
 
--- src/lib.rt:42:9
 add-k : tie.Need-add-k Inv-loop μ-loop
 add-k c = omega arith
 
--- src/lib.rt:36:5
 loop-less : tie.Need-loop-less Inv-loop μ-loop
 loop-less c = omega arith
 
--- src/lib.rt:36:5
 loop-again : tie.Need-loop-again Inv-loop μ-loop
 loop-again c =
     let a = c .before .before .before .before .before .before .before .before .args in
@@ -129,7 +111,6 @@ loop-again c =
           ∙ ap (λ (i : ℕ). before key next (a .n - (l .k + 1)) i (a .at)) (sym step),
     )
 
--- src/lib.rt:25:1
 returns-2 : tie.Need-returns-2 Inv-loop μ-loop
 returns-2 c =
     let a = c .before .before .before .before .args in

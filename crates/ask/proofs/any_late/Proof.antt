@@ -12,7 +12,8 @@ use Rattle.ask.proofs.any_late.Statement.{statement}
 use Rattle.ask.proofs.any_late.Tie as tie
 
 abbrev Inv-loop : tie.InvT-loop
-Inv-loop bytes g clock at₀ left₀ at left = CommandsIn bytes left at × (anyLate g clock (commandsAt bytes left₀ at₀) ≡ anyLate g clock (commandsAt bytes left at))
+Inv-loop bytes g clock at₀ left₀ at left =
+    CommandsIn bytes left at × (anyLate g clock (commandsAt bytes left₀ at₀) ≡ anyLate g clock (commandsAt bytes left at))
 
 abbrev μ-loop : tie.MeasureT-loop
 μ-loop bytes g clock at₀ left₀ at left = left
@@ -30,11 +31,15 @@ returns : tie.Need-returns Inv-loop μ-loop
 returns c =
     let l : ℕ = c .before .before .before .before .loop .left in
     let q : l ≡ l - 1 + 1 = omega arith in
-    let h = ap (λ (x : Head). late (c .before .before .before .before .before .before .args .g) (c .before .before .before .before .before .before .args .clock) (commandOf (c .before .before .before .before .before .before .args .bytes .now) x)) (sym (c .before .before .head-at .ensures)) ∙ sym (c .before .is-late .ensures) ∙ c .if1 .taken in
+    let h = ap (λ (x : Head). late (c .before .before .before .before .before .before .args .g)
+    (c .before .before .before .before .before .before .args .clock) (commandOf (c .before .before .before .before .before .before .args .bytes .now) x))
+    (sym (c .before .before .head-at .ensures)) ∙ sym (c .before .is-late .ensures) ∙ c .if1 .taken in
     sym (c .before .before .before .before .loop .inv .1 ∙ laws.late-here _ _ _ l (l - 1) _ q h)
 
 args-end-requires : tie.Need-args-end-requires Inv-loop μ-loop
-args-end-requires c κs = rw (c .before .before .head-at .ensures) (steps.commands-in _ _ _ _ (steps.one-more _ (λ z. omega arith)) (c .before .before .before .before .loop .inv .0) .1)
+args-end-requires c κs =
+    rw (c .before .before .head-at .ensures)
+    (steps.commands-in _ _ _ _ (steps.one-more _ (λ z. omega arith)) (c .before .before .before .before .loop .inv .0) .1)
 
 sub-left : tie.Need-sub-left Inv-loop μ-loop
 sub-left c = omega arith
@@ -47,9 +52,18 @@ loop-again c =
     let l : ℕ = c .before .before .before .before .before .loop .left in
     let q : l ≡ l - 1 + 1 = omega arith in
     let d = c .before .before .before .head-at .ensures in
-    let h = ap (λ (x : Head). late (c .before .before .before .before .before .before .before .args .g) (c .before .before .before .before .before .before .before .args .clock) (commandOf (c .before .before .before .before .before .before .before .args .bytes .now) x)) (sym d) ∙ sym (c .before .before .is-late .ensures) ∙ c .before .if1 .left in
-    let e = c .args-end .ensures ∙ ap (λ (x : Head). argsEnd (c .before .before .before .before .before .before .before .args .bytes .now) (x .args .left) (x .args .at)) d in
-    rw e (steps.commands-in _ l (l - 1) _ q (c .before .before .before .before .before .loop .inv .0) .2, c .before .before .before .before .before .loop .inv .1 ∙ laws.late-later _ _ _ l (l - 1) _ q h)
+    let h = ap (λ (x : Head). late (c .before .before .before .before .before .before .before .args .g)
+    (c .before .before .before .before .before .before .before .args .clock)
+    (commandOf (c .before .before .before .before .before .before .before .args .bytes .now) x)) (sym d) ∙ sym (c .before .before .is-late .ensures)
+    ∙ c .before .if1 .left in
+    let e = c .args-end .ensures ∙ ap
+    (λ (x : Head). argsEnd (c .before .before .before .before .before .before .before .args .bytes .now) (x .args .left) (x .args .at)) d in
+    rw e (
+      steps.commands-in _ l (l - 1) _ q
+          (c .before .before .before .before .before .loop .inv .0) .2,
+      c .before .before .before .before .before .loop .inv .1
+          ∙ laws.late-later _ _ _ l (l - 1) _ q h,
+    )
 
 returns-2 : tie.Need-returns-2 Inv-loop μ-loop
 returns-2 c = sym (c .before .loop .inv .1 ∙ laws.late-none _ _ _ _ 0 _ (omega arith))

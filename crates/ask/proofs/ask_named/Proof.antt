@@ -19,13 +19,15 @@ enum-told : tie.Need-enum-told
 enum-told c = search needs
 
 several-of-requires : tie.Need-several-of-requires
-several-of-requires c κs = (c .before .before .before .before .before .pre .0, laws.name-left _ _ (has-name _ _ (c .before .before .before .before .before .pre .2)))
+several-of-requires c κs =
+    (c .before .before .before .before .before .pre .0, laws.name-left _ _ (has-name _ _ (c .before .before .before .before .before .pre .2)))
 
 enum-told-2 : tie.Need-enum-told-2
 enum-told-2 c = search needs
 
 several-of-requires-2 : tie.Need-several-of-requires-2
-several-of-requires-2 c κs = (c .before .before .before .before .before .pre .0, laws.name-left _ _ (has-name _ _ (c .before .before .before .before .before .pre .2)))
+several-of-requires-2 c κs =
+    (c .before .before .before .before .before .pre .0, laws.name-left _ _ (has-name _ _ (c .before .before .before .before .before .pre .2)))
 
 enum-told-3 : tie.Need-enum-told-3
 enum-told-3 c = search needs
@@ -34,24 +36,34 @@ is-cachable-cmd-requires : tie.Need-is-cachable-cmd-requires
 is-cachable-cmd-requires c κs = search needs
 
 ask-one-requires : tie.Need-ask-one-requires
-ask-one-requires c κs = (c .before .before .before .before .before .before .before .pre .0, has-name _ _ (c .before .before .before .before .before .before .before .pre .2))
+ask-one-requires c κs =
+    (c .before .before .before .before .before .before .before .pre .0, has-name _ _ (c .before .before .before .before .before .before .before .pre .2))
 
 returns : tie.Need-returns
-returns c = laws.named-several _ _ _ _ false _ (ap multiKey (sym (c .before .before .before .before .bytes-in .ensures)) ∙ sym (c .before .before .before .is-multi-key .ensures) ∙ c .before .enum-told .given .1) (c .several-of .ensures)
+returns c =
+    laws.named-several _ _ _ _ false _
+    (ap multiKey (sym (c .before .before .before .before .bytes-in .ensures)) ∙ sym (c .before .before .before .is-multi-key .ensures)
+    ∙ c .before .enum-told .given .1) (c .several-of .ensures)
 
 returns-2 : tie.Need-returns-2
-returns-2 c = laws.named-several _ _ _ _ true _ (ap multiKey (sym (c .before .before .before .before .bytes-in .ensures)) ∙ sym (c .before .before .before .is-multi-key .ensures) ∙ c .before .enum-told2 .given .1) (c .several-of2 .ensures)
+returns-2 c =
+    laws.named-several _ _ _ _ true _
+    (ap multiKey (sym (c .before .before .before .before .bytes-in .ensures)) ∙ sym (c .before .before .before .is-multi-key .ensures)
+    ∙ c .before .enum-told2 .given .1) (c .several-of2 .ensures)
 
 returns-3 : tie.Need-returns-3
 returns-3 c =
-    let m = (ap multiKey (sym (c .before .before .before .before .before .before .bytes-in .ensures)) ∙ sym (c .before .before .before .before .before .is-multi-key .ensures) ∙ c .before .before .before .enum-told3 .given .1) in
-    let t = ap isCacheable (sym (c .before .before .before .before .before .before .bytes-in .ensures)) ∙ sym (c .before .before .is-cachable-cmd .ensures) ∙ c .before .if1 .taken in
+    let m = (ap multiKey (sym (c .before .before .before .before .before .before .bytes-in .ensures))
+    ∙ sym (c .before .before .before .before .before .is-multi-key .ensures) ∙ c .before .before .before .enum-told3 .given .1) in
+    let t = ap isCacheable (sym (c .before .before .before .before .before .before .bytes-in .ensures))
+    ∙ sym (c .before .before .is-cachable-cmd .ensures) ∙ c .before .if1 .taken in
     let e = c .ask-one .ensures in
     (e .0 ∙ sym (laws.named-one _ _ _ m t), e .1)
 
 returns-4 : tie.Need-returns-4
 returns-4 c =
-    let m = (ap multiKey (sym (c .before .before .before .before .before .bytes-in .ensures)) ∙ sym (c .before .before .before .before .is-multi-key .ensures) ∙ c .before .before .enum-told3 .given .1) in
+    let m = (ap multiKey (sym (c .before .before .before .before .before .bytes-in .ensures))
+    ∙ sym (c .before .before .before .before .is-multi-key .ensures) ∙ c .before .before .enum-told3 .given .1) in
     let t = ap isCacheable (sym (c .before .before .before .before .before .bytes-in .ensures)) ∙ sym (c .before .is-cachable-cmd .ensures) ∙ c .if1 .left in
     (sym (laws.named-none _ _ _ m t), tt)
 

@@ -20,13 +20,15 @@ enum-told c = search needs
 returns : tie.Need-returns
 returns c =
     let a = c .before .before .before .before .before .args in
-    let e = subst (λ (r : ArgAt). (foundText (a .bytes .now) r ≡ argIdx (argsOf (a .bytes .now) (a .k)) 1) × FoundIn (a .bytes .now) r) (c .before .key .given .1) (c .before .before .before .arg-idx .ensures) in
+    let e = subst (λ (r : ArgAt). (foundText (a .bytes .now) r ≡ argIdx (argsOf (a .bytes .now) (a .k)) 1) × FoundIn (a .bytes .now) r)
+    (c .before .key .given .1) (c .before .before .before .arg-idx .ensures) in
     (ap (λ (t : Text). laws.oneBy t (a .expiry)) (e .0) ∙ sym (laws.by-key _ _ (c .before .before .before .before .before .pre .1)), e .1)
 
 returns-2 : tie.Need-returns-2
 returns-2 c =
     let a = c .before .before .before .before .args in
-    let e = subst (λ (r : ArgAt). (foundText (a .bytes .now) r ≡ argIdx (argsOf (a .bytes .now) (a .k)) 1) × FoundIn (a .bytes .now) r) (c .enum-told .given .1) (c .before .before .arg-idx .ensures) in
+    let e = subst (λ (r : ArgAt). (foundText (a .bytes .now) r ≡ argIdx (argsOf (a .bytes .now) (a .k)) 1) × FoundIn (a .bytes .now) r)
+    (c .enum-told .given .1) (c .before .before .arg-idx .ensures) in
     (ap (λ (t : Text). laws.oneBy t (a .expiry)) (e .0) ∙ sym (laws.by-key _ _ (c .before .before .before .before .pre .1)), tt)
 
 pub ask-one-spec : {M : Type 1} → statement M

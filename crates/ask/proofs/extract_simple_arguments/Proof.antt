@@ -35,7 +35,10 @@ shared-slice-read-with-argument : tie.Need-shared-slice-read-with-argument Inv-l
 shared-slice-read-with-argument c = let i = in-first _ _ _ (λ z. omega arith) (c .before .before .before .loop .inv .here) .room in omega arith
 
 with-argument-requires : tie.Need-with-argument-requires Inv-loop μ-loop
-with-argument-requires c κs = let i = in-first _ _ _ (λ z. omega arith) (c .before .before .before .loop .inv .here) .room in let b = c .before .before .before .loop .inv .before in omega arith
+with-argument-requires c κs =
+    let i = in-first _ _ _ (λ z. omega arith) (c .before .before .before .loop .inv .here) .room in
+    let b = c .before .before .before .loop .inv .before in
+    omega arith
 
 sub-left : tie.Need-sub-left Inv-loop μ-loop
 sub-left c = omega arith

@@ -17,7 +17,9 @@ past-end-requires : tie.Need-past-end-requires
 past-end-requires c κs = search needs
 
 returns : tie.Need-returns
-returns c = c .past-end .ensures ∙ ap (λ (x : ℕ). lateBy (c .before .before .reach .result) (c .before .before .before .before .args .clock + x)) (c .before .client-ttl .ensures) ∙ sym (laws.late-is _ (c .before .before .reach .result) _ _ _ (c .before .before .reach .ensures .0))
+returns c =
+    c .past-end .ensures ∙ ap (λ (x : ℕ). lateBy (c .before .before .reach .result) (c .before .before .before .before .args .clock + x))
+    (c .before .client-ttl .ensures) ∙ sym (laws.late-is _ (c .before .before .reach .result) _ _ _ (c .before .before .reach .ensures .0))
 
 pub is-late-spec : {M : Type 1} → statement M
 is-late-spec = tie.close (tie.spec reach-requires client-ttl-requires past-end-requires returns)

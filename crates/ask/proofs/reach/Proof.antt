@@ -26,14 +26,24 @@ enum-told c = search needs
 returns-2 : tie.Need-returns-2
 returns-2 c =
     let a = c .before .before .before .before .before .before .before .before .before .args in
-    let e = subst (λ (r : ArgAt). (foundText (a .bytes .now) r ≡ argIdx (argsOf (a .bytes .now) (a .head .args)) 0) × FoundIn (a .bytes .now) r) (c .before .n .given .1) (c .before .before .before .arg-idx .ensures) in
-    (ap laws.byText (e .0) ∙ sym (laws.reach-name _ _ (c .before .before .before .before .before .before .if1 .left) (sym (c .before .before .before .before .before .takes-part .ensures) ∙ c .before .before .before .before .if2 .taken)), e .1)
+    let e = subst (λ (r : ArgAt). (foundText (a .bytes .now) r ≡ argIdx (argsOf (a .bytes .now) (a .head .args)) 0) × FoundIn (a .bytes .now) r)
+    (c .before .n .given .1) (c .before .before .before .arg-idx .ensures) in (
+      ap laws.byText (e .0) ∙ sym
+          (laws.reach-name _ _ (c .before .before .before .before .before .before .if1 .left)
+          (sym (c .before .before .before .before .before .takes-part .ensures) ∙ c .before .before .before .before .if2 .taken)),
+      e .1,
+    )
 
 returns-3 : tie.Need-returns-3
 returns-3 c =
     let a = c .before .before .before .before .before .before .before .before .args in
-    let e = subst (λ (r : ArgAt). (foundText (a .bytes .now) r ≡ argIdx (argsOf (a .bytes .now) (a .head .args)) 0) × FoundIn (a .bytes .now) r) (c .enum-told .given .1) (c .before .before .arg-idx .ensures) in
-    (ap laws.byText (e .0) ∙ sym (laws.reach-name _ _ (c .before .before .before .before .before .if1 .left) (sym (c .before .before .before .before .takes-part .ensures) ∙ c .before .before .before .if2 .taken)), tt)
+    let e = subst (λ (r : ArgAt). (foundText (a .bytes .now) r ≡ argIdx (argsOf (a .bytes .now) (a .head .args)) 0) × FoundIn (a .bytes .now) r)
+    (c .enum-told .given .1) (c .before .before .arg-idx .ensures) in (
+      ap laws.byText (e .0) ∙ sym
+          (laws.reach-name _ _ (c .before .before .before .before .before .if1 .left)
+          (sym (c .before .before .before .before .takes-part .ensures) ∙ c .before .before .before .if2 .taken)),
+      tt,
+    )
 
 returns-4 : tie.Need-returns-4
 returns-4 c = (sym (laws.reach-stopped _ _ (c .before .before .if1 .left) (sym (c .before .takes-part .ensures) ∙ c .if2 .left)), tt)

@@ -35,7 +35,8 @@ returns-2 : tie.Need-returns-2 Inv-loop μ-loop
 returns-2 c =
     let a = c .before .before .before .before .before .before .before .args in
     let l = c .before .before .before .loop in
-    sym (l .inv .3 ∙ same-block (a .a .now) (a .b .now) (l .i) (l .i + 64) (omega arith) (omega arith) (omega arith) (c .before .differ .ensures) (ne-eqb _ 0 (c .if2 .taken)))
+    sym (l .inv .3 ∙ same-block (a .a .now) (a .b .now) (l .i) (l .i + 64) (omega arith) (omega arith) (omega arith) (c .before .differ .ensures)
+    (ne-eqb _ 0 (c .if2 .taken)))
 
 add-i : tie.Need-add-i Inv-loop μ-loop
 add-i c = omega arith
@@ -50,7 +51,8 @@ loop-again c =
       omega arith,
       refl,
       omega arith,
-      l .inv .3 ∙ same-block (a .a .now) (a .b .now) (l .i) (l .i + 64) (omega arith) (omega arith) (omega arith) (c .before .differ .ensures) (eq-eqb _ 0 (c .if2 .left)),
+      l .inv .3 ∙ same-block (a .a .now) (a .b .now) (l .i) (l .i + 64) (omega arith) (omega arith) (omega arith) (c .before .differ .ensures)
+          (eq-eqb _ 0 (c .if2 .left)),
     )
 
 differ-requires-2 : tie.Need-differ-requires-2 Inv-loop μ-loop

@@ -24,7 +24,9 @@ same-length : tie.Need-same-length
 same-length c = search needs
 
 returns : tie.Need-returns
-returns c = let a = c .before .before .before .before .before .before .before .before .before .args in cc (two-halves (a .s .now) 4 (a .at) (a .n) (omega arith))
+returns c =
+    let a = c .before .before .before .before .before .before .before .before .before .args in
+    cc (two-halves (a .s .now) 4 (a .at) (a .n) (omega arith))
 
 pub write-u64-spec : {M : Type 1} → statement M
 write-u64-spec =

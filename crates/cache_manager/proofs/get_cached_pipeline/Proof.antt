@@ -22,13 +22,21 @@ enum-known-g : tie.Need-enum-known-g
 enum-known-g c = search needs
 
 plan-admitted-requires : tie.Need-plan-admitted-requires
-plan-admitted-requires c κs = let a = c .before .before .before .before .before .before .before .before .before .before .before .before .args in enter (a .size) (a .mode) (a .ttl) (a .arena .now) _ (sym (c .before .before .before .before .before .before .admit .ensures) ∙ c .before .before .before .before .g .given .1)
+plan-admitted-requires c κs =
+    let a = c .before .before .before .before .before .before .before .before .before .before .before .before .args in
+    enter (a .size) (a .mode) (a .ttl) (a .arena .now) _
+    (sym (c .before .before .before .before .before .before .admit .ensures) ∙ c .before .before .before .before .g .given .1)
 
 same-length : tie.Need-same-length
 same-length c = search needs
 
 returns : tie.Need-returns
-returns c = λ next. let a = c .before .before .before .before .before .before .before .before .before .before .args in laws.leaves-all (a .clock) (a .epoch) (a .bytes .now) (a .plan .now) (a .send .now) (a .arena .now) (a .counts) next _ _ _ (laws.call-refused (a .size) (a .mode) (a .ttl) (a .clock) (a .epoch) (a .bytes .now) (a .plan .now) (a .send .now) (holding (a .arena .now) (countsOf (a .counts)) next) _ (sym (c .before .before .before .before .admit .ensures) ∙ c .before .before .n .given .1)) (ap returnedOf (c .refused .ensures .0)) (c .refused .ensures .1)
+returns c =
+    λ next. let a = c .before .before .before .before .before .before .before .before .before .before .args in
+    laws.leaves-all (a .clock) (a .epoch) (a .bytes .now) (a .plan .now) (a .send .now) (a .arena .now) (a .counts) next _ _ _
+    (laws.call-refused (a .size) (a .mode) (a .ttl) (a .clock) (a .epoch) (a .bytes .now) (a .plan .now) (a .send .now)
+    (holding (a .arena .now) (countsOf (a .counts)) next) _ (sym (c .before .before .before .before .admit .ensures) ∙ c .before .before .n .given .1))
+    (ap returnedOf (c .refused .ensures .0)) (c .refused .ensures .1)
 
 same-length-2 : tie.Need-same-length-2
 same-length-2 c = search needs
@@ -40,7 +48,14 @@ same-length-4 : tie.Need-same-length-4
 same-length-4 c = search needs
 
 returns-2 : tie.Need-returns-2
-returns-2 c = λ next. let a = c .before .before .before .before .before .before .before .before .before .before .before .before .before .before .before .before .before .before .before .args in let d = admits (a .size) (a .mode) (a .ttl) (a .arena .now) _ (sym (c .before .before .before .before .before .before .before .before .before .before .before .before .before .admit .ensures) ∙ c .before .before .before .before .before .before .before .before .before .before .before .g .given .1) in rw (laws.call-admitted (a .size) (a .mode) (a .ttl) (a .clock) (a .epoch) (a .bytes .now) (a .plan .now) (a .send .now) (holding (a .arena .now) (countsOf (a .counts)) next) _ _ (d .fine) (d .read)) (c .before .before .before .before .before .before .plan-admitted .ensures _ next (d .lent))
+returns-2 c =
+    λ next. let a = c .before .before .before .before .before .before .before .before .before .before .before .before .before .before .before .before .before .before .before .args in
+    let d = admits (a .size) (a .mode) (a .ttl) (a .arena .now) _
+    (sym (c .before .before .before .before .before .before .before .before .before .before .before .before .before .admit .ensures)
+    ∙ c .before .before .before .before .before .before .before .before .before .before .before .g .given .1) in
+    rw (laws.call-admitted (a .size) (a .mode) (a .ttl) (a .clock) (a .epoch) (a .bytes .now) (a .plan .now) (a .send .now)
+    (holding (a .arena .now) (countsOf (a .counts)) next) _ _ (d .fine) (d .read))
+    (c .before .before .before .before .before .before .plan-admitted .ensures _ next (d .lent))
 
 pub get-cached-pipeline-spec : {M : Type 1} → statement M
 get-cached-pipeline-spec =

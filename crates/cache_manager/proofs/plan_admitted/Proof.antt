@@ -13,7 +13,11 @@ refused-requires : tie.Need-refused-requires
 refused-requires c κs = search needs
 
 returns : tie.Need-returns
-returns c = λ rows next o. let a = c .before .before .before .before .before .before .args in laws.leaves-all (a .clock) (a .epoch) (a .bytes .now) (a .plan .now) (a .send .now) (a .arena .now) (a .counts) next _ _ _ (laws.too-long (a .clock) (a .epoch) (a .bytes .now) (a .plan .now) (a .send .now) (holding (a .arena .now) (countsOf (a .counts)) next) (a .g) rows (c .before .if1 .taken)) (ap returnedOf (c .refused .ensures .0)) (c .refused .ensures .1)
+returns c =
+    λ rows next o. let a = c .before .before .before .before .before .before .args in
+    laws.leaves-all (a .clock) (a .epoch) (a .bytes .now) (a .plan .now) (a .send .now) (a .arena .now) (a .counts) next _ _ _
+    (laws.too-long (a .clock) (a .epoch) (a .bytes .now) (a .plan .now) (a .send .now) (holding (a .arena .now) (countsOf (a .counts)) next) (a .g) rows
+    (c .before .if1 .taken)) (ap returnedOf (c .refused .ensures .0)) (c .refused .ensures .1)
 
 check-requires : tie.Need-check-requires
 check-requires c κs = search needs
@@ -25,10 +29,19 @@ enum-told : tie.Need-enum-told
 enum-told c = search needs
 
 plan-record-requires : tie.Need-plan-record-requires
-plan-record-requires c κs = (c .before .before .before .before .before .before .before .before .before .before .before .pre, omega arith, sym (c .before .before .before .before .before .check .ensures) ∙ c .before .before .before .enum-told .given .1)
+plan-record-requires c κs = (
+  c .before .before .before .before .before .before .before .before .before .before .before .pre,
+  omega arith,
+  sym
+      (c .before .before .before .before .before .check .ensures) ∙ c .before .before .before .enum-told .given .1,
+)
 
 returns-2 : tie.Need-returns-2
-returns-2 c = λ rows next o. let a = c .before .before .before .before .before .before .before .before .before .args in laws.leaves-all (a .clock) (a .epoch) (a .bytes .now) (a .plan .now) (a .send .now) (a .arena .now) (a .counts) next _ _ _ (laws.bad-record (a .clock) (a .epoch) (a .bytes .now) (a .plan .now) (a .send .now) (holding (a .arena .now) (countsOf (a .counts)) next) (a .g) rows (omega arith) _ (sym (c .before .before .before .check .ensures) ∙ c .before .o .given .1)) refl refl
+returns-2 c =
+    λ rows next o. let a = c .before .before .before .before .before .before .before .before .before .args in
+    laws.leaves-all (a .clock) (a .epoch) (a .bytes .now) (a .plan .now) (a .send .now) (a .arena .now) (a .counts) next _ _ _
+    (laws.bad-record (a .clock) (a .epoch) (a .bytes .now) (a .plan .now) (a .send .now) (holding (a .arena .now) (countsOf (a .counts)) next) (a .g) rows
+    (omega arith) _ (sym (c .before .before .before .check .ensures) ∙ c .before .o .given .1)) refl refl
 
 same-length : tie.Need-same-length
 same-length c = search needs
@@ -40,7 +53,12 @@ same-length-3 : tie.Need-same-length-3
 same-length-3 c = search needs
 
 returns-3 : tie.Need-returns-3
-returns-3 c = λ rows next o. let a = c .before .before .before .before .before .before .before .before .before .before .before .before .before .before .before .before .before .before .args in rw (laws.good-record (a .clock) (a .epoch) (a .bytes .now) (a .plan .now) (a .send .now) (holding (a .arena .now) (countsOf (a .counts)) next) (a .g) rows (omega arith) (sym (c .before .before .before .before .before .before .before .before .before .before .before .before .check .ensures) ∙ c .before .before .before .before .before .before .before .before .before .before .enum-told .given .1)) (c .before .before .before .before .before .before .plan-record .ensures rows next o)
+returns-3 c =
+    λ rows next o. let a = c .before .before .before .before .before .before .before .before .before .before .before .before .before .before .before .before .before .before .args in
+    rw (laws.good-record (a .clock) (a .epoch) (a .bytes .now) (a .plan .now) (a .send .now) (holding (a .arena .now) (countsOf (a .counts)) next) (a .g) rows
+    (omega arith) (sym (c .before .before .before .before .before .before .before .before .before .before .before .before .check .ensures)
+    ∙ c .before .before .before .before .before .before .before .before .before .before .enum-told .given .1))
+    (c .before .before .before .before .before .before .plan-record .ensures rows next o)
 
 pub plan-admitted-spec : {M : Type 1} → statement M
 plan-admitted-spec =

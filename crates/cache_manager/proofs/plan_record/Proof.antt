@@ -13,19 +13,36 @@ commands-of-requires : tie.Need-commands-of-requires
 commands-of-requires c κs = fit _ (c .before .before .before .before .pre .2) .room
 
 any-late-requires : tie.Need-any-late-requires
-any-late-requires c κs = let w = c .before .before .before .before .before .pre in let a = c .before .before .before .before .before .args in laws.here (a .clock) (a .epoch) (a .bytes .now) (a .plan .now) (a .send .now) (a .arena .now) (a .g) _ (a .counts) (c .commands-of .ensures) (fit (a .bytes .now) (w .2))
+any-late-requires c κs =
+    let w = c .before .before .before .before .before .pre in
+    let a = c .before .before .before .before .before .args in
+    laws.here (a .clock) (a .epoch) (a .bytes .now) (a .plan .now) (a .send .now) (a .arena .now) (a .g) _ (a .counts) (c .commands-of .ensures)
+    (fit (a .bytes .now) (w .2))
 
 refused-requires : tie.Need-refused-requires
 refused-requires c κs = search needs
 
 returns : tie.Need-returns
-returns c = λ rows next o. let w = c .before .before .before .before .before .before .before .before .pre in let a = c .before .before .before .before .before .before .before .before .args in laws.record-late (a .clock) (a .epoch) (a .bytes .now) (a .plan .now) (a .send .now) (a .arena .now) (a .g) _ (a .counts) (c .before .before .before .commands-of .ensures) (fit (a .bytes .now) (w .2)) rows next _ (sym (c .before .before .any-late .ensures) ∙ c .before .if1 .taken) (c .refused .ensures)
+returns c =
+    λ rows next o. let w = c .before .before .before .before .before .before .before .before .pre in
+    let a = c .before .before .before .before .before .before .before .before .args in
+    laws.record-late (a .clock) (a .epoch) (a .bytes .now) (a .plan .now) (a .send .now) (a .arena .now) (a .g) _ (a .counts)
+    (c .before .before .before .commands-of .ensures) (fit (a .bytes .now) (w .2)) rows next _
+    (sym (c .before .before .any-late .ensures) ∙ c .before .if1 .taken) (c .refused .ensures)
 
 is-transaction-requires : tie.Need-is-transaction-requires
 is-transaction-requires c κs = fit _ (c .before .before .before .before .before .before .before .pre .2) .room
 
 is-short-requires : tie.Need-is-short-requires
-is-short-requires c κs = let w = c .before .before .before .before .before .before .before .before .before .pre in let a = c .before .before .before .before .before .before .before .before .before .args in (laws.ahead (a .clock) (a .epoch) (a .bytes .now) (a .plan .now) (a .send .now) (a .arena .now) (a .g) _ (a .counts) (c .before .before .before .before .commands-of .ensures) (fit (a .bytes .now) (w .2)) (sym (c .before .before .before .any-late .ensures) ∙ c .before .before .if1 .left), w .1, w .0)
+is-short-requires c κs =
+    let w = c .before .before .before .before .before .before .before .before .before .pre in
+    let a = c .before .before .before .before .before .before .before .before .before .args in (
+      laws.ahead (a .clock) (a .epoch) (a .bytes .now) (a .plan .now) (a .send .now) (a .arena .now) (a .g) _ (a .counts)
+          (c .before .before .before .before .commands-of .ensures) (fit (a .bytes .now) (w .2))
+          (sym (c .before .before .before .any-late .ensures) ∙ c .before .before .if1 .left),
+      w .1,
+      w .0,
+    )
 
 refused-requires-2 : tie.Need-refused-requires-2
 refused-requires-2 c κs = search needs
@@ -34,10 +51,31 @@ same-length : tie.Need-same-length
 same-length c = search needs
 
 returns-2 : tie.Need-returns-2
-returns-2 c = λ rows next o. let w = c .before .before .before .before .before .before .before .before .before .before .before .before .pre in let a = c .before .before .before .before .before .before .before .before .before .before .before .before .args in laws.record-short (a .clock) (a .epoch) (a .bytes .now) (a .plan .now) (a .send .now) (a .arena .now) (a .g) _ (a .counts) (c .before .before .before .before .before .before .before .commands-of .ensures) (fit (a .bytes .now) (w .2)) rows next _ _ (c .before .before .before .before .is-transaction .ensures) (sym (c .before .before .before .before .before .before .any-late .ensures) ∙ c .before .before .before .before .before .if1 .left) (sym (c .before .before .is-short .ensures rows o) ∙ c .before .if2 .taken) (c .refused2 .ensures)
+returns-2 c =
+    λ rows next o. let w = c .before .before .before .before .before .before .before .before .before .before .before .before .pre in
+    let a = c .before .before .before .before .before .before .before .before .before .before .before .before .args in
+    laws.record-short (a .clock) (a .epoch) (a .bytes .now) (a .plan .now) (a .send .now) (a .arena .now) (a .g) _ (a .counts)
+    (c .before .before .before .before .before .before .before .commands-of .ensures) (fit (a .bytes .now) (w .2)) rows next _ _
+    (c .before .before .before .before .is-transaction .ensures)
+    (sym (c .before .before .before .before .before .before .any-late .ensures) ∙ c .before .before .before .before .before .if1 .left)
+    (sym (c .before .before .is-short .ensures rows o) ∙ c .before .if2 .taken) (c .refused2 .ensures)
 
 write-pipeline-requires : tie.Need-write-pipeline-requires
-write-pipeline-requires c κs = let w = c .before .before .before .before .before .before .before .before .before .before .before .before .before .before .pre in let a = c .before .before .before .before .before .before .before .before .before .before .before .before .before .before .args in (laws.ahead (a .clock) (a .epoch) (a .bytes .now) (a .plan .now) (a .send .now) (a .arena .now) (a .g) _ (a .counts) (c .before .before .before .before .before .before .before .before .before .commands-of .ensures) (fit (a .bytes .now) (w .2)) (sym (c .before .before .before .before .before .before .before .before .any-late .ensures) ∙ c .before .before .before .before .before .before .before .if1 .left), w .1, w .0, laws.few (a .clock) (a .epoch) (a .bytes .now) (a .plan .now) (a .send .now) (a .arena .now) (a .g) _ (a .counts) (c .before .before .before .before .before .before .before .before .before .commands-of .ensures) (fit (a .bytes .now) (w .2)), λ rows o. laws.not-short _ _ _ _ (sym (c .before .before .before .before .is-short .ensures rows o) ∙ c .before .before .before .if2 .left))
+write-pipeline-requires c κs =
+    let w = c .before .before .before .before .before .before .before .before .before .before .before .before .before .before .pre in
+    let a = c .before .before .before .before .before .before .before .before .before .before .before .before .before .before .args in (
+      laws.ahead (a .clock) (a .epoch) (a .bytes .now) (a .plan .now) (a .send .now) (a .arena .now) (a .g) _ (a .counts)
+          (c .before .before .before .before .before .before .before .before .before .commands-of .ensures) (fit (a .bytes .now) (w .2))
+          (sym (c .before .before .before .before .before .before .before .before .any-late .ensures)
+          ∙ c .before .before .before .before .before .before .before .if1 .left),
+      w .1,
+      w .0,
+      laws.few (a .clock) (a .epoch) (a .bytes .now) (a .plan .now)
+          (a .send .now) (a .arena .now) (a .g) _ (a .counts) (c .before .before .before .before .before .before .before .before .before .commands-of .ensures)
+          (fit (a .bytes .now) (w .2)),
+      λ rows o. laws.not-short _ _ _ _
+          (sym (c .before .before .before .before .is-short .ensures rows o) ∙ c .before .before .before .if2 .left),
+    )
 
 same-length-2 : tie.Need-same-length-2
 same-length-2 c = search needs
@@ -49,7 +87,20 @@ same-length-4 : tie.Need-same-length-4
 same-length-4 c = search needs
 
 returns-3 : tie.Need-returns-3
-returns-3 c = λ rows next o. let w = c .before .before .before .before .before .before .before .before .before .before .before .before .before .before .before .before .before .before .before .before .before .pre in let a = c .before .before .before .before .before .before .before .before .before .before .before .before .before .before .before .before .before .before .before .before .before .args in laws.record-done (a .clock) (a .epoch) (a .bytes .now) (a .plan .now) (a .send .now) (a .arena .now) (a .g) _ (a .counts) (c .before .before .before .before .before .before .before .before .before .before .before .before .before .before .before .before .commands-of .ensures) (fit (a .bytes .now) (w .2)) rows next _ _ (c .before .before .before .before .before .before .before .before .before .before .before .before .before .is-transaction .ensures) (sym (c .before .before .before .before .before .before .before .before .before .before .before .before .before .before .before .any-late .ensures) ∙ c .before .before .before .before .before .before .before .before .before .before .before .before .before .before .if1 .left) (sym (c .before .before .before .before .before .before .before .before .before .before .before .is-short .ensures rows o) ∙ c .before .before .before .before .before .before .before .before .before .before .if2 .left) _ _ _ (c .before .before .before .before .before .arena .given) (c .before .before .before .before .before .before .write-pipeline .ensures (bookOf rows (holding (a .arena .now) (countsOf (a .counts)) next)) (record { rows = o; counts = refl }))
+returns-3 c =
+    λ rows next o. let w = c .before .before .before .before .before .before .before .before .before .before .before .before .before .before .before .before .before .before .before .before .before .pre in
+    let a = c .before .before .before .before .before .before .before .before .before .before .before .before .before .before .before .before .before .before .before .before .before .args in
+    laws.record-done (a .clock) (a .epoch) (a .bytes .now) (a .plan .now) (a .send .now) (a .arena .now) (a .g) _ (a .counts)
+    (c .before .before .before .before .before .before .before .before .before .before .before .before .before .before .before .before .commands-of .ensures)
+    (fit (a .bytes .now) (w .2)) rows next _ _
+    (c .before .before .before .before .before .before .before .before .before .before .before .before .before .is-transaction .ensures)
+    (sym (c .before .before .before .before .before .before .before .before .before .before .before .before .before .before .before .any-late .ensures)
+    ∙ c .before .before .before .before .before .before .before .before .before .before .before .before .before .before .if1 .left)
+    (sym (c .before .before .before .before .before .before .before .before .before .before .before .is-short .ensures rows o)
+    ∙ c .before .before .before .before .before .before .before .before .before .before .if2 .left) _ _ _
+    (c .before .before .before .before .before .arena .given)
+    (c .before .before .before .before .before .before .write-pipeline .ensures (bookOf rows (holding (a .arena .now) (countsOf (a .counts)) next))
+    (record { rows = o; counts = refl }))
 
 pub plan-record-spec : {M : Type 1} → statement M
 plan-record-spec =

@@ -13,26 +13,49 @@ cast-write-plan-head : tie.Need-cast-write-plan-head
 cast-write-plan-head c = search needs
 
 write-plan-head-requires : tie.Need-write-plan-head-requires
-write-plan-head-requires c κs = let w = c .before .before .before .before .before .pre in let a = c .before .before .before .before .before .args in laws.head-fits (a .g) (a .clock) (a .epoch) (a .transaction) (commandsAt (a .bytes .now) (a .k .left) (a .k .at)) (a .arena .now) (a .plan .now) (a .send .now) (w .4) (w .2)
+write-plan-head-requires c κs =
+    let w = c .before .before .before .before .before .pre in
+    let a = c .before .before .before .before .before .args in
+    laws.head-fits (a .g) (a .clock) (a .epoch) (a .transaction) (commandsAt (a .bytes .now) (a .k .left) (a .k .at)) (a .arena .now) (a .plan .now)
+    (a .send .now) (w .4) (w .2)
 
 write-start-requires : tie.Need-write-start-requires
-write-start-requires c κs = let w = c .before .before .before .before .before .before .before .before .before .pre in let a = c .before .before .before .before .before .before .before .before .before .args in laws.start-fits (a .g) (a .clock) (a .epoch) (a .transaction) (commandsAt (a .bytes .now) (a .k .left) (a .k .at)) (a .arena .now) (a .plan .now) (a .send .now) (w .4) (w .2)
+write-start-requires c κs =
+    let w = c .before .before .before .before .before .before .before .before .before .pre in
+    let a = c .before .before .before .before .before .before .before .before .before .args in
+    laws.start-fits (a .g) (a .clock) (a .epoch) (a .transaction) (commandsAt (a .bytes .now) (a .k .left) (a .k .at)) (a .arena .now) (a .plan .now)
+    (a .send .now) (w .4) (w .2)
 
 plan-commands-requires : tie.Need-plan-commands-requires
 plan-commands-requires c κs =
     let w = c .before .before .before .before .before .before .before .before .before .before .before .before .before .before .before .pre in
     let a = c .before .before .before .before .before .before .before .before .before .before .before .before .before .before .before .args in
-    let k = w .3 in
-    (w .0, w .1, w .2, laws.pass-room (a .g) (a .clock) (a .epoch) (a .transaction) (commandsAt (a .bytes .now) (a .k .left) (a .k .at)) (a .arena .now) (a .plan .now) (a .send .now) _ _ _ _ (a .k .left) (a .counts) (commands-count (a .bytes .now) (a .k .left) (a .k .at)) (c .before .before .before .before .before .before .before .before .before .write-plan-head .ensures) (c .before .before .before .before .before .write-start .ensures) (w .4), omega arith)
+    let k = w .3 in (
+      w .0,
+      w .1,
+      w .2,
+      laws.pass-room (a .g) (a .clock) (a .epoch) (a .transaction) (commandsAt (a .bytes .now) (a .k .left) (a .k .at)) (a .arena .now)
+          (a .plan .now) (a .send .now) _ _ _ _ (a .k .left) (a .counts) (commands-count (a .bytes .now) (a .k .left) (a .k .at))
+          (c .before .before .before .before .before .before .before .before .before .write-plan-head .ensures)
+          (c .before .before .before .before .before .write-start .ensures) (w .4),
+      omega arith,
+    )
 
 write-end-requires : tie.Need-write-end-requires
 write-end-requires c κs =
     let w = c .before .before .before .before .before .before .before .before .before .before .before .before .before .before .before .before .before .before .before .before .before .before .before .pre in
     let a = c .before .before .before .before .before .before .before .before .before .before .before .before .before .before .before .before .before .before .before .before .before .before .before .args in
-    laws.end-room (a .g) (a .clock) (a .epoch) (a .transaction) (commandsAt (a .bytes .now) (a .k .left) (a .k .at)) (a .arena .now) (a .plan .now) (a .send .now) _ _ _ _ (a .k .left) (a .counts) (commands-count (a .bytes .now) (a .k .left) (a .k .at)) (c .before .before .before .before .before .before .before .before .before .before .before .before .before .before .before .before .before .write-plan-head .ensures) (c .before .before .before .before .before .before .before .before .before .before .before .before .before .write-start .ensures) (w .4) _ _ _ _ (c .before .before .before .before .before .before .before .plan-commands .ensures .0) (w .2)
+    laws.end-room (a .g) (a .clock) (a .epoch) (a .transaction) (commandsAt (a .bytes .now) (a .k .left) (a .k .at)) (a .arena .now) (a .plan .now)
+    (a .send .now) _ _ _ _ (a .k .left) (a .counts) (commands-count (a .bytes .now) (a .k .left) (a .k .at))
+    (c .before .before .before .before .before .before .before .before .before .before .before .before .before .before .before .before .before .write-plan-head .ensures)
+    (c .before .before .before .before .before .before .before .before .before .before .before .before .before .write-start .ensures) (w .4) _ _ _ _
+    (c .before .before .before .before .before .before .before .plan-commands .ensures .0) (w .2)
 
 written-of-requires : tie.Need-written-of-requires
-written-of-requires c κs = let b = c .before .before .before .before .before .before .before .before .before .before .before .plan-commands .ensures .1 in let k = c .before .before .before .before .before .before .before .before .before .before .before .before .before .before .before .before .before .before .before .before .before .before .before .before .before .before .before .pre .3 in omega arith
+written-of-requires c κs =
+    let b = c .before .before .before .before .before .before .before .before .before .before .before .plan-commands .ensures .1 in
+    let k = c .before .before .before .before .before .before .before .before .before .before .before .before .before .before .before .before .before .before .before .before .before .before .before .before .before .before .before .pre .3 in
+    omega arith
 
 same-length : tie.Need-same-length
 same-length c = search needs
@@ -47,7 +70,12 @@ returns : tie.Need-returns
 returns c =
     let w = c .before .before .before .before .before .before .before .before .before .before .before .before .before .before .before .before .before .before .before .before .before .before .before .before .before .before .before .before .pre in
     let a = c .before .before .before .before .before .before .before .before .before .before .before .before .before .before .before .before .before .before .before .before .before .before .before .before .before .before .before .before .args in
-    laws.passed (a .g) (a .clock) (a .epoch) (a .transaction) (commandsAt (a .bytes .now) (a .k .left) (a .k .at)) (a .arena .now) (a .plan .now) (a .send .now) _ _ _ _ (a .k .left) (a .counts) (commands-count (a .bytes .now) (a .k .left) (a .k .at)) (c .before .before .before .before .before .before .before .before .before .before .before .before .before .before .before .before .before .before .before .before .before .before .write-plan-head .ensures) (c .before .before .before .before .before .before .before .before .before .before .before .before .before .before .before .before .before .before .write-start .ensures) (w .4) _ _ _ _ (c .before .before .before .before .before .before .before .before .before .before .before .before .plan-commands .ensures .0) _ _ _ (c .before .before .before .before .write-end .ensures) (ap Done (c .written-of .ensures)) refl
+    laws.passed (a .g) (a .clock) (a .epoch) (a .transaction) (commandsAt (a .bytes .now) (a .k .left) (a .k .at)) (a .arena .now) (a .plan .now)
+    (a .send .now) _ _ _ _ (a .k .left) (a .counts) (commands-count (a .bytes .now) (a .k .left) (a .k .at))
+    (c .before .before .before .before .before .before .before .before .before .before .before .before .before .before .before .before .before .before .before .before .before .before .write-plan-head .ensures)
+    (c .before .before .before .before .before .before .before .before .before .before .before .before .before .before .before .before .before .before .write-start .ensures)
+    (w .4) _ _ _ _ (c .before .before .before .before .before .before .before .before .before .before .before .before .plan-commands .ensures .0) _ _ _
+    (c .before .before .before .before .write-end .ensures) (ap Done (c .written-of .ensures)) refl
 
 pub write-pipeline-spec : {M : Type 1} → statement M
 write-pipeline-spec =

@@ -17,22 +17,38 @@ enum-told : tie.Need-enum-told
 enum-told c = search needs
 
 returns : tie.Need-returns
-returns c = λ v m. law.find-no _ v m (c .before .before .before .before .args .transaction) (law.array-as _ _ _ (c .enum-told .given .1) (c .before .before .array .ensures .0))
+returns c =
+    λ v m. law.find-no _ v m (c .before .before .before .before .args .transaction)
+    (law.array-as _ _ _ (c .enum-told .given .1) (c .before .before .array .ensures .0))
 
 returns-2 : tie.Need-returns-2
-returns-2 c = λ v m. law.find-plain _ v m (c .before .before .before .before .before .before .args .transaction) _ (not-true _ (c .if1 .taken)) (law.array-as _ _ _ (c .before .before .first .given .1) (c .before .before .before .before .array .ensures .0))
+returns-2 c =
+    λ v m. law.find-plain _ v m (c .before .before .before .before .before .before .args .transaction) _ (not-true _ (c .if1 .taken))
+    (law.array-as _ _ _ (c .before .before .first .given .1) (c .before .before .before .before .array .ensures .0))
 
 returns-3 : tie.Need-returns-3
-returns-3 c = λ v m. law.find-many _ v m (c .before .before .before .before .before .before .before .before .args .transaction) _ (not-false _ (c .before .before .if1 .left)) (law.array-as _ _ _ (c .before .before .before .before .first .given .1) (c .before .before .before .before .before .before .array .ensures .0)) (c .if2 .taken)
+returns-3 c =
+    λ v m. law.find-many _ v m (c .before .before .before .before .before .before .before .before .args .transaction) _
+    (not-false _ (c .before .before .if1 .left))
+    (law.array-as _ _ _ (c .before .before .before .before .first .given .1) (c .before .before .before .before .before .before .array .ensures .0))
+    (c .if2 .taken)
 
 sub-array : tie.Need-sub-array
-sub-array c = law.first-inside _ _ (c .before .before .before .before .before .before .before .before .pre) (law.array-as _ _ _ (c .before .before .before .before .first .given .1) (c .before .before .before .before .before .before .array .ensures .0)) .order
+sub-array c =
+    law.first-inside _ _ (c .before .before .before .before .before .before .before .before .pre)
+    (law.array-as _ _ _ (c .before .before .before .before .first .given .1) (c .before .before .before .before .before .before .array .ensures .0)) .order
 
 part-array-start : tie.Need-part-array-start
-part-array-start c = let i = law.first-inside _ _ (c .before .before .before .before .before .before .before .before .pre) (law.array-as _ _ _ (c .before .before .before .before .first .given .1) (c .before .before .before .before .before .before .array .ensures .0)) in omega (arith, i .order)
+part-array-start c =
+    let i = law.first-inside _ _ (c .before .before .before .before .before .before .before .before .pre)
+    (law.array-as _ _ _ (c .before .before .before .before .first .given .1) (c .before .before .before .before .before .before .array .ensures .0)) in
+    omega (arith, i .order)
 
 part-array-end : tie.Need-part-array-end
-part-array-end c = let i = law.first-inside _ _ (c .before .before .before .before .before .before .before .before .pre) (law.array-as _ _ _ (c .before .before .before .before .first .given .1) (c .before .before .before .before .before .before .array .ensures .0)) in omega (arith, i .within)
+part-array-end c =
+    let i = law.first-inside _ _ (c .before .before .before .before .before .before .before .before .pre)
+    (law.array-as _ _ _ (c .before .before .before .before .first .given .1) (c .before .before .before .before .before .before .array .ensures .0)) in
+    omega (arith, i .within)
 
 array-requires-2 : tie.Need-array-requires-2
 array-requires-2 c κs = search needs
@@ -45,11 +61,22 @@ enum-told-2 c = search needs
 
 returns-4 : tie.Need-returns-4
 unfolding part
-returns-4 c = λ v m. law.find-inner-no _ v m (c .before .before .before .before .before .before .before .before .before .before .before .before .args .transaction) _ (not-false _ (c .before .before .before .before .before .before .if1 .left)) (law.array-as _ _ _ (c .before .before .before .before .before .before .before .before .first .given .1) (c .before .before .before .before .before .before .before .before .before .before .array .ensures .0)) (c .before .before .before .before .if2 .left) (law.array-as _ _ _ (c .enum-told2 .given .1) (c .before .before .array2 .ensures .0))
+returns-4 c =
+    λ v m. law.find-inner-no _ v m (c .before .before .before .before .before .before .before .before .before .before .before .before .args .transaction) _
+    (not-false _ (c .before .before .before .before .before .before .if1 .left))
+    (law.array-as _ _ _ (c .before .before .before .before .before .before .before .before .first .given .1)
+    (c .before .before .before .before .before .before .before .before .before .before .array .ensures .0)) (c .before .before .before .before .if2 .left)
+    (law.array-as _ _ _ (c .enum-told2 .given .1) (c .before .before .array2 .ensures .0))
 
 returns-5 : tie.Need-returns-5
 unfolding part
-returns-5 c = λ v m. law.find-inner _ v m (c .before .before .before .before .before .before .before .before .before .before .before .before .before .args .transaction) _ _ (not-false _ (c .before .before .before .before .before .before .before .if1 .left)) (law.array-as _ _ _ (c .before .before .before .before .before .before .before .before .before .first .given .1) (c .before .before .before .before .before .before .before .before .before .before .before .array .ensures .0)) (c .before .before .before .before .before .if2 .left) (law.array-as _ _ _ (c .before .inner .given .1) (c .before .before .before .array2 .ensures .0))
+returns-5 c =
+    λ v m. law.find-inner _ v m
+    (c .before .before .before .before .before .before .before .before .before .before .before .before .before .args .transaction) _ _
+    (not-false _ (c .before .before .before .before .before .before .before .if1 .left))
+    (law.array-as _ _ _ (c .before .before .before .before .before .before .before .before .before .first .given .1)
+    (c .before .before .before .before .before .before .before .before .before .before .before .array .ensures .0))
+    (c .before .before .before .before .before .if2 .left) (law.array-as _ _ _ (c .before .inner .given .1) (c .before .before .before .array2 .ensures .0))
 
 pub find-list-spec : {M : Type 1} → statement M
 find-list-spec =

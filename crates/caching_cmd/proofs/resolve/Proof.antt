@@ -23,7 +23,10 @@ same-length : tie.Need-same-length
 same-length c = search needs
 
 returns : tie.Need-returns
-returns c = λ counts next. law.refused-comes _ _ _ _ _ _ _ _ (record { arena = now (c .before .before .before .before .before .before .before .before .before .args .arena); counts = counts; next = next }) _ (sym (c .before .before .before .admit .ensures) ∙ c .before .n .given .1)
+returns c =
+    λ counts next. law.refused-comes _ _ _ _ _ _ _ _
+    (record { arena = now (c .before .before .before .before .before .before .before .before .before .args .arena); counts = counts; next = next }) _
+    (sym (c .before .before .before .admit .ensures) ∙ c .before .n .given .1)
 
 same-length-2 : tie.Need-same-length-2
 same-length-2 c = search needs
@@ -32,7 +35,10 @@ same-length-3 : tie.Need-same-length-3
 same-length-3 c = search needs
 
 returns-2 : tie.Need-returns-2
-returns-2 c = λ counts next. law.admitted-comes _ _ _ _ _ _ _ _ _ _ _ _ (c .before .before .before .before .resolve-admitted .result) (sym (c .before .before .before .before .before .before .before .before .before .before .admit .ensures) ∙ c .before .before .before .before .before .before .before .before .g .given .1) (c .before .before .before .before .resolve-admitted .ensures)
+returns-2 c =
+    λ counts next. law.admitted-comes _ _ _ _ _ _ _ _ _ _ _ _ (c .before .before .before .before .resolve-admitted .result)
+    (sym (c .before .before .before .before .before .before .before .before .before .before .admit .ensures)
+    ∙ c .before .before .before .before .before .before .before .before .g .given .1) (c .before .before .before .before .resolve-admitted .ensures)
 
 pub resolve-spec : {M : Type 1} → statement M
 resolve-spec =

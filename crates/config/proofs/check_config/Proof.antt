@@ -24,14 +24,31 @@ returns-3 c = rw (le-ltb _ _ (c .before .before .if1 .left), le-ltb _ _ (c .befo
 
 returns-4 : tie.Need-returns-4
 unfolding checked refused
-returns-4 c = rw (le-ltb _ _ (c .before .before .before .if1 .left), le-ltb _ _ (c .before .before .if2 .left), le-ltb _ _ (c .before .if3 .left), lt-ltb _ _ (c .if4 .taken))
+returns-4 c =
+    rw (
+      le-ltb _ _ (c .before .before .before .if1 .left),
+      le-ltb _ _ (c .before .before .if2 .left),
+      le-ltb _ _ (c .before .if3 .left),
+      lt-ltb _ _
+          (c .if4 .taken),
+    )
 
 mul-if5 : tie.Need-mul-if5
 mul-if5 c = omega (arith, count-bounds (c .before .before .before .before .before .args .size), c .before .before .before .before .shard-count .ensures)
 
 returns-5 : tie.Need-returns-5
 unfolding checked refused
-returns-5 c = rw (le-ltb _ _ (c .before .before .before .before .if1 .left), le-ltb _ _ (c .before .before .before .if2 .left), le-ltb _ _ (c .before .before .if3 .left), le-ltb _ _ (c .before .if4 .left), ← c .before .before .before .before .before .shard-count .ensures, lt-ltb _ _ (c .if5 .taken))
+returns-5 c =
+    rw (
+      le-ltb _ _ (c .before .before .before .before .if1 .left),
+      le-ltb _ _ (c .before .before .before .if2 .left),
+      le-ltb _ _
+          (c .before .before .if3 .left),
+      le-ltb _ _ (c .before .if4 .left),
+      ← c .before .before .before .before .before .shard-count .ensures,
+      lt-ltb _ _
+          (c .if5 .taken),
+    )
 
 mode-of-requires : tie.Need-mode-of-requires
 mode-of-requires c κs = search needs
@@ -44,7 +61,22 @@ shard-bytes-requires c κs = search needs
 
 returns-6 : tie.Need-returns-6
 unfolding checked refused settingsOf
-returns-6 c = rw (le-ltb _ _ (c .before .before .before .before .before .before .before .if1 .left), le-ltb _ _ (c .before .before .before .before .before .before .if2 .left), le-ltb _ _ (c .before .before .before .before .before .if3 .left), le-ltb _ _ (c .before .before .before .before .if4 .left), ← c .before .before .before .before .before .before .before .before .shard-count .ensures, le-ltb _ _ (c .before .before .before .if5 .left), c .before .before .mode-of .ensures, c .before .shard-size .ensures, c .shard-bytes .ensures, c .before .before .before .before .before .before .before .before .shard-count .ensures)
+returns-6 c =
+    rw (
+      le-ltb _ _ (c .before .before .before .before .before .before .before .if1 .left),
+      le-ltb _ _
+          (c .before .before .before .before .before .before .if2 .left),
+      le-ltb _ _ (c .before .before .before .before .before .if3 .left),
+      le-ltb _ _
+          (c .before .before .before .before .if4 .left),
+      ← c .before .before .before .before .before .before .before .before .shard-count .ensures,
+      le-ltb _ _
+          (c .before .before .before .if5 .left),
+      c .before .before .mode-of .ensures,
+      c .before .shard-size .ensures,
+      c .shard-bytes .ensures,
+      c .before .before .before .before .before .before .before .before .shard-count .ensures,
+    )
 
 pub check-config-spec : {M : Type 1} → statement M
 check-config-spec =

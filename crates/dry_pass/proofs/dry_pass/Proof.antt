@@ -23,7 +23,12 @@ head-at-requires : tie.Need-head-at-requires Inv-loop μ-loop
 head-at-requires c κs = laws.planable-room _ _ _ _ _ _ (one-more _ (λ z. omega arith)) (c .before .loop .inv .ahead)
 
 size-of-requires : tie.Need-size-of-requires Inv-loop μ-loop
-size-of-requires c κs = (laws.planable-first _ _ _ _ _ _ (one-more _ (λ z. omega arith)) (c .before .before .loop .inv .ahead) _ (c .head-at .ensures), c .before .before .before .before .before .pre .1, c .before .before .before .before .before .pre .2)
+size-of-requires c κs = (
+  laws.planable-first _ _ _ _ _ _ (one-more _ (λ z. omega arith)) (c .before .before .loop .inv .ahead) _
+      (c .head-at .ensures),
+  c .before .before .before .before .before .pre .1,
+  c .before .before .before .before .before .pre .2,
+)
 
 spend-requires : tie.Need-spend-requires Inv-loop μ-loop
 spend-requires c κs = tt
@@ -32,7 +37,9 @@ spend-requires-2 : tie.Need-spend-requires-2 Inv-loop μ-loop
 spend-requires-2 c κs = tt
 
 args-end-requires : tie.Need-args-end-requires Inv-loop μ-loop
-args-end-requires c κs = laws.planable-first _ _ _ _ _ _ (one-more _ (λ z. omega arith)) (c .before .before .before .before .before .loop .inv .ahead) _ (c .before .before .before .head-at .ensures) .here
+args-end-requires c κs =
+    laws.planable-first _ _ _ _ _ _ (one-more _ (λ z. omega arith)) (c .before .before .before .before .before .loop .inv .ahead) _
+    (c .before .before .before .head-at .ensures) .here
 
 sub-left : tie.Need-sub-left Inv-loop μ-loop
 sub-left c = omega arith
@@ -44,14 +51,22 @@ loop-again : tie.Need-loop-again Inv-loop μ-loop
 loop-again c =
     let l : ℕ = c .before .before .before .before .before .before .loop .left in
     let d = c .before .before .before .before .head-at .ensures in
-    let f = c .args-end .ensures ∙ ap (λ (x : Head). argsEnd (c .before .before .before .before .before .before .before .before .before .args .bytes .now) (x .args .left) (x .args .at)) d in
-    rw (c .before .before .spend .ensures, c .before .spend2 .ensures) (laws.walked-next _ _ _ _ _ _ _ _ _ l (l - 1) _ _ _ _ _ _ (one-more l (λ z. omega arith)) d f (c .before .before .before .size-of .ensures) (c .before .before .before .before .before .before .loop .inv))
+    let f = c .args-end .ensures ∙ ap
+    (λ (x : Head). argsEnd (c .before .before .before .before .before .before .before .before .before .args .bytes .now) (x .args .left)
+    (x .args .at)) d in
+    rw (c .before .before .spend .ensures, c .before .spend2 .ensures)
+    (laws.walked-next _ _ _ _ _ _ _ _ _ l (l - 1) _ _ _ _ _ _ (one-more l (λ z. omega arith)) d f (c .before .before .before .size-of .ensures)
+    (c .before .before .before .before .before .before .loop .inv))
 
 returns : tie.Need-returns Inv-loop μ-loop
-returns c = λ rows o. c .if1 .taken ∙ ap (λ (b : Bool). b || c .before .before .loop .q .short) (sym (c .if1 .taken)) ∙ laws.walked-end _ _ _ _ _ _ _ _ _ _ _ _ _ (omega arith) (c .before .before .loop .inv) rows o
+returns c =
+    λ rows o. c .if1 .taken ∙ ap (λ (b : Bool). b || c .before .before .loop .q .short) (sym (c .if1 .taken))
+    ∙ laws.walked-end _ _ _ _ _ _ _ _ _ _ _ _ _ (omega arith) (c .before .before .loop .inv) rows o
 
 returns-2 : tie.Need-returns-2 Inv-loop μ-loop
-returns-2 c = λ rows o. ap (λ (b : Bool). b || c .before .before .loop .q .short) (sym (c .if1 .left)) ∙ laws.walked-end _ _ _ _ _ _ _ _ _ _ _ _ _ (omega arith) (c .before .before .loop .inv) rows o
+returns-2 c =
+    λ rows o. ap (λ (b : Bool). b || c .before .before .loop .q .short) (sym (c .if1 .left))
+    ∙ laws.walked-end _ _ _ _ _ _ _ _ _ _ _ _ _ (omega arith) (c .before .before .loop .inv) rows o
 
 pub dry-pass-spec : {M : Type 1} → statement M
 dry-pass-spec =

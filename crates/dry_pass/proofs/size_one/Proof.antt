@@ -22,7 +22,8 @@ sub-t15 c =
     let q = c .before .before .before .before .before .before .before .pre .4 in
     let a = c .before .before .before .before .before .before .before .args in
     let w = wholeKey (commandOf (a .bytes .now) (a .head)) (rangeBytes (a .bytes .now) (a .key)) in
-    let h = laws.told-value (a .arena .now) w (placeOn (setupNow (a .g)) (q .rows) (a .clock) (a .epoch) w) (c .before .before .before .peek-one .result) _ _ (c .before .from .given .1) (c .before .before .before .peek-one .ensures (q .rows) (q .lent)) in
+    let h = laws.told-value (a .arena .now) w (placeOn (setupNow (a .g)) (q .rows) (a .clock) (a .epoch) w)
+    (c .before .before .before .peek-one .result) _ _ (c .before .from .given .1) (c .before .before .before .peek-one .ensures (q .rows) (q .lent)) in
     h .0
 
 add-t16 : tie.Need-add-t16
@@ -30,7 +31,8 @@ add-t16 c =
     let q = c .before .before .before .before .before .before .before .pre .4 in
     let a = c .before .before .before .before .before .before .before .args in
     let w = wholeKey (commandOf (a .bytes .now) (a .head)) (rangeBytes (a .bytes .now) (a .key)) in
-    let h = laws.told-value (a .arena .now) w (placeOn (setupNow (a .g)) (q .rows) (a .clock) (a .epoch) w) (c .before .before .before .peek-one .result) _ _ (c .before .from .given .1) (c .before .before .before .peek-one .ensures (q .rows) (q .lent)) in
+    let h = laws.told-value (a .arena .now) w (placeOn (setupNow (a .g)) (q .rows) (a .clock) (a .epoch) w)
+    (c .before .before .before .peek-one .result) _ _ (c .before .from .given .1) (c .before .before .before .peek-one .ensures (q .rows) (q .lent)) in
     let e = h .1 in
     let m = q .lent .largest in
     omega arith
@@ -63,7 +65,8 @@ returns c =
     let a = c .before .before .before .before .before .before .before .args in
     let w = wholeKey (commandOf (a .bytes .now) (a .head)) (rangeBytes (a .bytes .now) (a .key)) in
     λ rows o x.
-    let h = laws.told-value (a .arena .now) w (placeOn (setupNow (a .g)) rows (a .clock) (a .epoch) w) (c .before .before .before .peek-one .result) _ _ (c .before .from .given .1) (c .before .before .before .peek-one .ensures rows o) in
+    let h = laws.told-value (a .arena .now) w (placeOn (setupNow (a .g)) rows (a .clock) (a .epoch) w) (c .before .before .before .peek-one .result) _ _
+    (c .before .from .given .1) (c .before .before .before .peek-one .ensures rows o) in
     laws.size-hit (a .g .mode) _ _ x _ _ (h .2) (h .3)
 
 returns-2 : tie.Need-returns-2
@@ -71,8 +74,11 @@ returns-2 c =
     let a = c .before .before .before .before .before .before .before .before .before .before .args in
     let w = wholeKey (commandOf (a .bytes .now) (a .head)) (rangeBytes (a .bytes .now) (a .key)) in
     λ rows o x.
-    let e = laws.told-waits (a .arena .now) w (placeOn (setupNow (a .g)) rows (a .clock) (a .epoch) w) (c .before .before .before .before .before .before .peek-one .result) _ (c .before .before .before .before .enum-told .given .1) (c .before .before .before .before .before .before .peek-one .ensures rows o) in
-    laws.size-miss (a .g .mode) (a .bytes .now) (a .head) (a .key) _ x _ _ _ _ e (c .before .before .before .bytes-in .ensures) (c .before .before .missing-len .ensures) (c .before .opt-in-len .ensures .0) (c .single-len .ensures .0)
+    let e = laws.told-waits (a .arena .now) w (placeOn (setupNow (a .g)) rows (a .clock) (a .epoch) w)
+    (c .before .before .before .before .before .before .peek-one .result) _ (c .before .before .before .before .enum-told .given .1)
+    (c .before .before .before .before .before .before .peek-one .ensures rows o) in
+    laws.size-miss (a .g .mode) (a .bytes .now) (a .head) (a .key) _ x _ _ _ _ e (c .before .before .before .bytes-in .ensures)
+    (c .before .before .missing-len .ensures) (c .before .opt-in-len .ensures .0) (c .single-len .ensures .0)
 
 pub size-one-spec : {M : Type 1} → statement M
 size-one-spec =

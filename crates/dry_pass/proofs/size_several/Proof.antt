@@ -61,7 +61,8 @@ returns : tie.Need-returns
 returns c =
     let a = c .before .before .before .before .before .before .args in
     λ rows o d x.
-    laws.size-served (a .g .mode) d (a .bytes .now) (a .v) _ x (c .before .before .before .measure .result) (c .before .before .before .measure .ensures .0 rows o) (c .before .if1 .taken)
+    laws.size-served (a .g .mode) d (a .bytes .now) (a .v) _ x (c .before .before .before .measure .result)
+    (c .before .before .before .measure .ensures .0 rows o) (c .before .if1 .taken)
 
 returns-2 : tie.Need-returns-2
 returns-2 c =
@@ -77,7 +78,8 @@ returns-2 c =
     λ rows o d x.
     let m = c .before .before .before .before .before .measure .ensures .0 rows o in
     let ks = keysOf (missing (placesNow (a .g) rows (a .clock) (a .epoch) (a .bytes .now) (a .v))) in
-    laws.size-missing (a .g .mode) d (a .bytes .now) (a .v) _ x (c .before .before .before .before .before .measure .result) m (p .0) e (omega arith) _ _ (c .before .opt-in-len .ensures .0)
+    laws.size-missing (a .g .mode) d (a .bytes .now) (a .v) _ x (c .before .before .before .before .before .measure .result) m (p .0) e (omega arith) _ _
+    (c .before .opt-in-len .ensures .0)
     (c .several-len .ensures .0 ks (m .number ∙ sym (keys-length (missing (placesNow (a .g) rows (a .clock) (a .epoch) (a .bytes .now) (a .v))))) (m .keys))
 
 pub size-several-spec : {M : Type 1} → statement M

@@ -30,10 +30,14 @@ increase-invalidate-requires-2 : tie.Need-increase-invalidate-requires-2
 increase-invalidate-requires-2 c κs = search needs
 
 returns : tie.Need-returns
-returns c = rw (c .increase-invalidate .ensures, c .before .increase-miss .ensures, c .before .before .increase-hit .ensures) (sym (ap (laws.countedBy (c .before .before .before .before .before .args .counts)) (c .before .before .before .enum-told .given .1)))
+returns c =
+    rw (c .increase-invalidate .ensures, c .before .increase-miss .ensures, c .before .before .increase-hit .ensures)
+    (sym (ap (laws.countedBy (c .before .before .before .before .before .args .counts)) (c .before .before .before .enum-told .given .1)))
 
 returns-2 : tie.Need-returns-2
-returns-2 c = rw (c .increase-invalidate2 .ensures, c .before .increase-miss2 .ensures, c .before .before .increase-hit2 .ensures) (sym (ap (laws.countedBy (c .before .before .before .before .before .before .args .counts)) (c .before .before .before .before .looked .given .1)))
+returns-2 c =
+    rw (c .increase-invalidate2 .ensures, c .before .increase-miss2 .ensures, c .before .before .increase-hit2 .ensures)
+    (sym (ap (laws.countedBy (c .before .before .before .before .before .before .args .counts)) (c .before .before .before .before .looked .given .1)))
 
 pub counted-spec : {M : Type 1} → statement M
 counted-spec =

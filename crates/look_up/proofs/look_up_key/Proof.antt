@@ -24,8 +24,12 @@ returns c = λ w p q.
     let a = c .before .before .before .before .before .before .before .before .args in
     let k = p ∙ sym (c .before .before .before .before .before .bytes-in .ensures) in
     record {
-      looks = laws.looks-one _ _ _ w _ _ _ _ _ _ (c .before .before .before .get .result) k q (c .counted .ensures) (λ rows l. let h = c .before .before .before .get .ensures rows l in (h .0, h .1));
-      told = λ rows l. told-place (setupNow (a .g)) rows (a .clock) (a .epoch) _ w _ _ (c .before .before .before .get .result) k q (c .before .before .before .get .ensures rows l .1);
+      looks =
+          laws.looks-one _ _ _ w _ _ _ _ _ _ (c .before .before .before .get .result) k q (c .counted .ensures)
+          (λ rows l. let h = c .before .before .before .get .ensures rows l in (h .0, h .1));
+      told =
+          λ rows l. told-place (setupNow (a .g)) rows (a .clock) (a .epoch) _ w _ _ (c .before .before .before .get .result) k q
+          (c .before .before .before .get .ensures rows l .1);
     }
 
 pub look-up-key-spec : {M : Type 1} → statement M

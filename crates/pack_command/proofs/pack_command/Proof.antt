@@ -24,8 +24,13 @@ write-single-requires c κs =
     let C = sends.cachingBytes (a .mode) in
     let q = c .before .before .cc .given .1 in
     let w = subst (λ (z : CacheableCommand). sends.CommandSends (a .bytes .now) (a .src .now) (a .from) z) q (p .1) in
-    let e = ap (sends.missingWith (a .bytes .now) (a .head) (a .src .now) (a .from)) q in
-    (p .0, w, room-is _ _ _ _ e (room-second _ _ _ C (sends.missingWith (a .bytes .now) (a .head) (a .src .now) (a .from) (a .cc)) _ _ refl (p .2) (c .before .before .before .before .before .before .write-opt-in .ensures)))
+    let e = ap (sends.missingWith (a .bytes .now) (a .head) (a .src .now) (a .from)) q in (
+      p .0,
+      w,
+      room-is _ _ _ _ e
+          (room-second _ _ _ C (sends.missingWith (a .bytes .now) (a .head) (a .src .now) (a .from) (a .cc)) _ _ refl (p .2)
+          (c .before .before .before .before .before .before .write-opt-in .ensures)),
+    )
 
 enum-known-cc-2 : tie.Need-enum-known-cc-2
 enum-known-cc-2 c = search needs
@@ -37,8 +42,15 @@ write-several-requires c κs =
     let C = sends.cachingBytes (a .mode) in
     let q = c .before .before .cc2 .given .1 in
     let w = subst (λ (z : CacheableCommand). sends.CommandSends (a .bytes .now) (a .src .now) (a .from) z) q (p .1) in
-    let e = ap (sends.missingWith (a .bytes .now) (a .head) (a .src .now) (a .from)) q in
-    (w .0, w .1, w .2, w .3, room-is _ _ _ _ e (room-second _ _ _ C (sends.missingWith (a .bytes .now) (a .head) (a .src .now) (a .from) (a .cc)) _ _ refl (p .2) (c .before .before .before .before .before .before .write-opt-in .ensures)))
+    let e = ap (sends.missingWith (a .bytes .now) (a .head) (a .src .now) (a .from)) q in (
+      w .0,
+      w .1,
+      w .2,
+      w .3,
+      room-is _ _ _ _ e
+          (room-second _ _ _ C (sends.missingWith (a .bytes .now) (a .head) (a .src .now) (a .from) (a .cc)) _ _ refl (p .2)
+          (c .before .before .before .before .before .before .write-opt-in .ensures)),
+    )
 
 same-length : tie.Need-same-length
 same-length c = search needs
@@ -49,7 +61,9 @@ returns c =
     let p = c .before .before .before .before .before .before .before .before .before .before .before .before .before .before .pre in
     let C = sends.cachingBytes (a .mode) in
     let e = ap (sends.missingWith (a .bytes .now) (a .head) (a .src .now) (a .from)) (c .before .before .before .before .before .cc .given .1) in
-    wrote-both _ _ _ _ C (sends.missingWith (a .bytes .now) (a .head) (a .src .now) (a .from) (a .cc)) _ _ _ refl (p .2) (c .before .before .before .before .before .before .before .before .before .write-opt-in .ensures) (wrote-as _ _ _ _ _ _ e (c .before .before .write-single .ensures))
+    wrote-both _ _ _ _ C (sends.missingWith (a .bytes .now) (a .head) (a .src .now) (a .from) (a .cc)) _ _ _ refl (p .2)
+    (c .before .before .before .before .before .before .before .before .before .write-opt-in .ensures)
+    (wrote-as _ _ _ _ _ _ e (c .before .before .write-single .ensures))
 
 same-length-2 : tie.Need-same-length-2
 same-length-2 c = search needs
@@ -60,7 +74,9 @@ returns-2 c =
     let p = c .before .before .before .before .before .before .before .before .before .before .before .before .before .before .pre in
     let C = sends.cachingBytes (a .mode) in
     let e = ap (sends.missingWith (a .bytes .now) (a .head) (a .src .now) (a .from)) (c .before .before .before .before .before .cc2 .given .1) in
-    wrote-both _ _ _ _ C (sends.missingWith (a .bytes .now) (a .head) (a .src .now) (a .from) (a .cc)) _ _ _ refl (p .2) (c .before .before .before .before .before .before .before .before .before .write-opt-in .ensures) (wrote-as _ _ _ _ _ _ e (c .before .before .write-several .ensures))
+    wrote-both _ _ _ _ C (sends.missingWith (a .bytes .now) (a .head) (a .src .now) (a .from) (a .cc)) _ _ _ refl (p .2)
+    (c .before .before .before .before .before .before .before .before .before .write-opt-in .ensures)
+    (wrote-as _ _ _ _ _ _ e (c .before .before .write-several .ensures))
 
 pub pack-command-spec : {M : Type 1} → statement M
 pack-command-spec =

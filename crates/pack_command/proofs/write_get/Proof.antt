@@ -14,12 +14,16 @@ argument-count-requires c κs = search needs
 write-head-requires : tie.Need-write-head-requires
 write-head-requires c κs =
     let a = c .before .before .before .args in
-    room-is (head 42 (sends.argumentCount (a .json) (a .n))) _ _ _ (ap (head 42) (sym (c .before .argument-count .ensures))) (room-first _ (head 42 (sends.argumentCount (a .json) (a .n))) (blob (severalName (a .json))) _ _ refl (c .before .before .before .pre .1))
+    room-is (head 42 (sends.argumentCount (a .json) (a .n))) _ _ _ (ap (head 42) (sym (c .before .argument-count .ensures)))
+    (room-first _ (head 42 (sends.argumentCount (a .json) (a .n))) (blob (severalName (a .json))) _ _ refl (c .before .before .before .pre .1))
 
 write-name-requires : tie.Need-write-name-requires
 write-name-requires c κs =
     let a = c .before .before .before .before .before .before .before .args in
-    room-second _ _ _ (head 42 (sends.argumentCount (a .json) (a .n))) (blob (severalName (a .json))) _ _ refl (c .before .before .before .before .before .before .before .pre .1) (wrote-is _ _ (head 42 (sends.argumentCount (a .json) (a .n))) _ _ _ (ap (head 42) (sym (c .before .before .before .before .before .argument-count .ensures))) (c .before .before .before .write-head .ensures))
+    room-second _ _ _ (head 42 (sends.argumentCount (a .json) (a .n))) (blob (severalName (a .json))) _ _ refl
+    (c .before .before .before .before .before .before .before .pre .1)
+    (wrote-is _ _ (head 42 (sends.argumentCount (a .json) (a .n))) _ _ _
+    (ap (head 42) (sym (c .before .before .before .before .before .argument-count .ensures))) (c .before .before .before .write-head .ensures))
 
 same-length : tie.Need-same-length
 same-length c = search needs
@@ -27,7 +31,11 @@ same-length c = search needs
 returns : tie.Need-returns
 returns c =
     let a = c .before .before .before .before .before .before .before .before .before .before .args in
-    wrote-both _ _ _ _ (head 42 (sends.argumentCount (a .json) (a .n))) (blob (severalName (a .json))) _ _ _ refl (c .before .before .before .before .before .before .before .before .before .before .pre .1) (wrote-is _ _ (head 42 (sends.argumentCount (a .json) (a .n))) _ _ _ (ap (head 42) (sym (c .before .before .before .before .before .before .before .before .argument-count .ensures))) (c .before .before .before .before .before .before .write-head .ensures)) (c .before .before .write-name .ensures)
+    wrote-both _ _ _ _ (head 42 (sends.argumentCount (a .json) (a .n))) (blob (severalName (a .json))) _ _ _ refl
+    (c .before .before .before .before .before .before .before .before .before .before .pre .1)
+    (wrote-is _ _ (head 42 (sends.argumentCount (a .json) (a .n))) _ _ _
+    (ap (head 42) (sym (c .before .before .before .before .before .before .before .before .argument-count .ensures)))
+    (c .before .before .before .before .before .before .write-head .ensures)) (c .before .before .write-name .ensures)
 
 pub write-get-spec : {M : Type 1} → statement M
 write-get-spec =

@@ -17,15 +17,21 @@ enum-told c = search needs
 write-pttl-requires : tie.Need-write-pttl-requires
 write-pttl-requires c κs =
     let a = c .before .before .before .before .before .before .before .args in
-    room-is _ _ _ _ (sends.half-pttl (a .bytes .now) (a .head) (a .key) _ (c .before .enum-told .given .1) ∙ ap (λ (z : Bytes). packed (pttlTexts z)) (sym (c .before .before .before .before .bytes-in .ensures))) (c .before .before .before .before .before .before .before .pre .2)
+    room-is _ _ _ _ (sends.half-pttl (a .bytes .now) (a .head) (a .key) _ (c .before .enum-told .given .1)
+    ∙ ap (λ (z : Bytes). packed (pttlTexts z)) (sym (c .before .before .before .before .bytes-in .ensures)))
+    (c .before .before .before .before .before .before .before .pre .2)
 
 enum-told-2 : tie.Need-enum-told-2
 enum-told-2 c = search needs
 
 write-command-requires : tie.Need-write-command-requires
 write-command-requires c κs =
-    let a = c .before .before .before .before .before .before .before .args in
-    (c .before .before .before .before .before .before .before .pre .0, room-is _ _ _ _ (sends.half-own (a .bytes .now) (a .head) (a .key) _ (c .before .enum-told2 .given .1)) (c .before .before .before .before .before .before .before .pre .2))
+    let a = c .before .before .before .before .before .before .before .args in (
+      c .before .before .before .before .before .before .before .pre .0,
+      room-is _ _ _ _
+          (sends.half-own (a .bytes .now) (a .head) (a .key) _ (c .before .enum-told2 .given .1))
+          (c .before .before .before .before .before .before .before .pre .2),
+    )
 
 same-length : tie.Need-same-length
 same-length c = search needs
@@ -33,7 +39,10 @@ same-length c = search needs
 returns : tie.Need-returns
 returns c =
     let a = c .before .before .before .before .before .before .before .before .before .before .args in
-    wrote-is _ _ _ _ _ _ (sends.half-pttl (a .bytes .now) (a .head) (a .key) _ (c .before .before .before .before .enum-told .given .1) ∙ ap (λ (z : Bytes). packed (pttlTexts z)) (sym (c .before .before .before .before .before .before .before .bytes-in .ensures))) (c .before .before .write-pttl .ensures)
+    wrote-is _ _ _ _ _ _
+    (sends.half-pttl (a .bytes .now) (a .head) (a .key) _ (c .before .before .before .before .enum-told .given .1)
+    ∙ ap (λ (z : Bytes). packed (pttlTexts z)) (sym (c .before .before .before .before .before .before .before .bytes-in .ensures)))
+    (c .before .before .write-pttl .ensures)
 
 same-length-2 : tie.Need-same-length-2
 same-length-2 c = search needs
@@ -41,7 +50,8 @@ same-length-2 c = search needs
 returns-2 : tie.Need-returns-2
 returns-2 c =
     let a = c .before .before .before .before .before .before .before .before .before .before .args in
-    wrote-is _ _ _ _ _ _ (sends.half-own (a .bytes .now) (a .head) (a .key) _ (c .before .before .before .before .enum-told2 .given .1)) (c .before .before .write-command .ensures)
+    wrote-is _ _ _ _ _ _ (sends.half-own (a .bytes .now) (a .head) (a .key) _ (c .before .before .before .before .enum-told2 .given .1))
+    (c .before .before .write-command .ensures)
 
 pub write-half-spec : {M : Type 1} → statement M
 write-half-spec =

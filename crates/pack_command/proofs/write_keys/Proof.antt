@@ -28,8 +28,11 @@ write-waiting-requires c κs =
     let N = sends.getName (a .v .json) (a .n) in
     let ks = keysAt (a .src .now) (a .from) (a .v .keys) in
     let K = blobBytes ks in
-    let P = blobBytes (pathIn (a .bytes .now) (a .v)) in
-    (p .3, room-is K _ _ _ (sym (keys-are ks)) (room-first _ K P _ _ refl (room-second _ _ _ N (K ++ P) _ _ refl (p .4) (c .before .before .before .write-get .ensures))))
+    let P = blobBytes (pathIn (a .bytes .now) (a .v)) in (
+      p .3,
+      room-is K _ _ _ (sym (keys-are ks))
+          (room-first _ K P _ _ refl (room-second _ _ _ N (K ++ P) _ _ refl (p .4) (c .before .before .before .write-get .ensures))),
+    )
 
 write-path-requires : tie.Need-write-path-requires
 write-path-requires c κs =
@@ -38,8 +41,13 @@ write-path-requires c κs =
     let N = sends.getName (a .v .json) (a .n) in
     let ks = keysAt (a .src .now) (a .from) (a .v .keys) in
     let K = blobBytes ks in
-    let P = blobBytes (pathIn (a .bytes .now) (a .v)) in
-    (p .0, p .1, room-second _ _ _ K P _ _ refl (room-second _ _ _ N (K ++ P) _ _ refl (p .4) (c .before .before .before .before .before .before .before .write-get .ensures)) (wrote-as _ _ K _ _ _ (sym (keys-are ks)) (c .before .before .before .write-waiting .ensures)))
+    let P = blobBytes (pathIn (a .bytes .now) (a .v)) in (
+      p .0,
+      p .1,
+      room-second _ _ _ K P _ _ refl
+          (room-second _ _ _ N (K ++ P) _ _ refl (p .4) (c .before .before .before .before .before .before .before .write-get .ensures))
+          (wrote-as _ _ K _ _ _ (sym (keys-are ks)) (c .before .before .before .write-waiting .ensures)),
+    )
 
 same-length : tie.Need-same-length
 same-length c = search needs
@@ -54,7 +62,9 @@ returns c =
     let P = blobBytes (pathIn (a .bytes .now) (a .v)) in
     let g = c .before .before .before .before .before .before .before .before .before .before .write-get .ensures in
     wrote-both _ _ _ _ N (K ++ P) _ _ _ refl (p .4) g
-    (wrote-both _ _ _ _ K P _ _ _ refl (room-second _ _ _ N (K ++ P) _ _ refl (p .4) g) (wrote-as _ _ K _ _ _ (sym (keys-are ks)) (c .before .before .before .before .before .before .write-waiting .ensures)) (c .before .before .write-path .ensures))
+    (wrote-both _ _ _ _ K P _ _ _ refl (room-second _ _ _ N (K ++ P) _ _ refl (p .4) g)
+    (wrote-as _ _ K _ _ _ (sym (keys-are ks)) (c .before .before .before .before .before .before .write-waiting .ensures))
+    (c .before .before .write-path .ensures))
 
 pub write-keys-spec : {M : Type 1} → statement M
 write-keys-spec =

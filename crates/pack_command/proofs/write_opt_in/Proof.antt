@@ -12,7 +12,9 @@ enum-told-2 : tie.Need-enum-told-2
 enum-told-2 c = search needs
 
 write-client-caching-requires : tie.Need-write-client-caching-requires
-write-client-caching-requires c κs = room-is _ _ _ _ (sends.caching-opt-in (c .before .before .before .before .args .mode) (c .before .enum-told2 .given .1)) (c .before .before .before .before .pre)
+write-client-caching-requires c κs =
+    room-is _ _ _ _ (sends.caching-opt-in (c .before .before .before .before .args .mode) (c .before .enum-told2 .given .1))
+    (c .before .before .before .before .pre)
 
 returns : tie.Need-returns
 returns c = wrote-none _ _ _ (sends.caching-all (c .before .before .before .args .mode) (c .enum-told .given .1))
@@ -21,7 +23,10 @@ same-length : tie.Need-same-length
 same-length c = search needs
 
 returns-2 : tie.Need-returns-2
-returns-2 c = wrote-is _ _ _ _ _ _ (sends.caching-opt-in (c .before .before .before .before .before .before .before .args .mode) (c .before .before .before .before .enum-told2 .given .1)) (c .before .before .write-client-caching .ensures)
+returns-2 c =
+    wrote-is _ _ _ _ _ _
+    (sends.caching-opt-in (c .before .before .before .before .before .before .before .args .mode) (c .before .before .before .before .enum-told2 .given .1))
+    (c .before .before .write-client-caching .ensures)
 
 pub write-opt-in-spec : {M : Type 1} → statement M
 write-opt-in-spec =

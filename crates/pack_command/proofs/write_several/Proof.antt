@@ -39,7 +39,8 @@ returns c =
     let ks = keysAt (a .src .now) (a .from) (a .v .keys) in
     let G = sends.getWith (a .bytes .now) (a .v) (a .n) ks in
     let P = encAll packed (pttls ks) in
-    wrote-both _ _ _ _ G P _ _ _ refl (p .4) (c .before .before .before .before .before .before .write-keys .ensures) (wrote-as _ _ P _ _ _ (sym (pttls-are ks)) (c .before .before .write-waiting .ensures))
+    wrote-both _ _ _ _ G P _ _ _ refl (p .4) (c .before .before .before .before .before .before .write-keys .ensures)
+    (wrote-as _ _ P _ _ _ (sym (pttls-are ks)) (c .before .before .write-waiting .ensures))
 
 pub write-several-spec : {M : Type 1} → statement M
 write-several-spec =

@@ -25,7 +25,9 @@ same-length c = search needs
 returns : tie.Need-returns
 returns c =
     let a = c .before .before .before .before .before .before .before .before .before .before .args in
-    wrote-both _ _ _ _ _ _ _ _ _ (sends.both-halves (a .bytes .now) (a .head) (a .key)) (c .before .before .before .before .before .before .before .before .before .before .pre .2) (c .before .before .before .before .before .before .write-half .ensures) (c .before .before .write-half2 .ensures)
+    wrote-both _ _ _ _ _ _ _ _ _ (sends.both-halves (a .bytes .now) (a .head) (a .key))
+    (c .before .before .before .before .before .before .before .before .before .before .pre .2)
+    (c .before .before .before .before .before .before .write-half .ensures) (c .before .before .write-half2 .ensures)
 
 pub write-single-spec : {M : Type 1} → statement M
 write-single-spec = tie.close (tie.spec write-half-requires write-half-requires-2 same-length returns)

@@ -20,11 +20,14 @@ name-len-requires c κs = search needs
 
 add-result-2 : tie.Need-add-result-2
 add-result-2 c =
-    let g = lengths.get-length (c .before .before .before .args .json) (c .before .before .before .args .n) _ _ _ (c .before .before .before .pre) (c .before .before .argument-count .ensures) (c .before .countdigits .ensures) (c .name-len .ensures .0) (c .name-len .ensures .1) .1 in omega arith
+    let g = lengths.get-length (c .before .before .before .args .json) (c .before .before .before .args .n) _ _ _ (c .before .before .before .pre)
+    (c .before .before .argument-count .ensures) (c .before .countdigits .ensures) (c .name-len .ensures .0) (c .name-len .ensures .1) .1 in
+    omega arith
 
 returns : tie.Need-returns
 returns c =
-    lengths.get-length (c .before .before .before .args .json) (c .before .before .before .args .n) _ _ _ (c .before .before .before .pre) (c .before .before .argument-count .ensures) (c .before .countdigits .ensures) (c .name-len .ensures .0) (c .name-len .ensures .1)
+    lengths.get-length (c .before .before .before .args .json) (c .before .before .before .args .n) _ _ _ (c .before .before .before .pre)
+    (c .before .before .argument-count .ensures) (c .before .countdigits .ensures) (c .name-len .ensures .0) (c .name-len .ensures .1)
 
 pub get-len-spec : {M : Type 1} → statement M
 get-len-spec =

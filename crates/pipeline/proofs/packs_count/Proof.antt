@@ -20,7 +20,9 @@ returns : tie.Need-returns
 returns c = (ap counts.packsCount (sym (c .enum-told .given .1)), omega arith)
 
 returns-2 : tie.Need-returns-2
-returns-2 c = let f = subst (λ (z : CacheableCommand). counts.CommandFew z) (c .before .cc .given .1) (c .before .before .before .pre) in (ap counts.packsCount (sym (c .before .cc .given .1)), omega arith)
+returns-2 c =
+    let f = subst (λ (z : CacheableCommand). counts.CommandFew z) (c .before .cc .given .1) (c .before .before .before .pre) in
+    (ap counts.packsCount (sym (c .before .cc .given .1)), omega arith)
 
 pub packs-count-spec : {M : Type 1} → statement M
 packs-count-spec =

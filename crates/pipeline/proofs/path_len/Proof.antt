@@ -13,10 +13,12 @@ bulklen-requires c κs = search needs
 returns : tie.Need-returns
 returns c =
     let p = c .before .before .before .before .before .pre in
-    lengths.path-length (c .before .before .before .before .before .args .bytes .now) (c .before .before .before .before .before .args .v) _ (p .0) (p .1) (p .2) (c .before .before .if1 .taken) (c .bulklen .ensures)
+    lengths.path-length (c .before .before .before .before .before .args .bytes .now) (c .before .before .before .before .before .args .v) _ (p .0) (p .1)
+    (p .2) (c .before .before .if1 .taken) (c .bulklen .ensures)
 
 returns-2 : tie.Need-returns-2
-returns-2 c = lengths.no-path (c .before .before .before .args .bytes .now) (c .before .before .before .args .v) (c .before .before .before .pre .0) (c .if1 .left)
+returns-2 c =
+    lengths.no-path (c .before .before .before .args .bytes .now) (c .before .before .before .args .v) (c .before .before .before .pre .0) (c .if1 .left)
 
 pub path-len-spec : {M : Type 1} → statement M
 path-len-spec = tie.close (tie.spec sub-bulklen bulklen-requires returns returns-2)

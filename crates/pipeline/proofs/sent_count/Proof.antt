@@ -24,10 +24,16 @@ opt-in-count-requires : tie.Need-opt-in-count-requires
 opt-in-count-requires c κs = search needs
 
 packs-count-requires : tie.Need-packs-count-requires
-packs-count-requires c κs = subst (λ (z : CachingResult). counts.ResultFew z) (c .before .before .before .before .before .r .given .1 ∙ ap Item (c .before .before .i .given .1)) (c .before .before .before .before .before .before .before .pre)
+packs-count-requires c κs =
+    subst (λ (z : CachingResult). counts.ResultFew z) (c .before .before .before .before .before .r .given .1 ∙ ap Item (c .before .before .i .given .1))
+    (c .before .before .before .before .before .before .before .pre)
 
 add-result : tie.Need-add-result
-add-result c = let m = counts.opt-few (c .before .before .before .before .before .before .before .before .args .mode) in let x = c .before .opt-in-count .ensures in let y = c .packs-count .ensures .1 in omega arith
+add-result c =
+    let m = counts.opt-few (c .before .before .before .before .before .before .before .before .args .mode) in
+    let x = c .before .opt-in-count .ensures in
+    let y = c .packs-count .ensures .1 in
+    omega arith
 
 enum-told-3 : tie.Need-enum-told-3
 enum-told-3 c = search needs
@@ -36,7 +42,11 @@ returns : tie.Need-returns
 returns c = (ap (counts.countWith (c .before .before .args .mode)) (sym (c .enum-told .given .1)), omega arith)
 
 returns-2 : tie.Need-returns-2
-returns-2 c = (ap (counts.countWith (c .before .before .before .before .before .args .mode)) (sym (c .before .before .before .r .given .1 ∙ ap Item (c .enum-told2 .given .1))), omega arith)
+returns-2 c = (
+  ap (counts.countWith (c .before .before .before .before .before .args .mode))
+      (sym (c .before .before .before .r .given .1 ∙ ap Item (c .enum-told2 .given .1))),
+  omega arith,
+)
 
 returns-3 : tie.Need-returns-3
 returns-3 c =
@@ -44,11 +54,16 @@ returns-3 c =
     let x = c .before .opt-in-count .ensures in
     let y = c .packs-count .ensures .1 in
     let z = c .packs-count .ensures .0 in
-    let e = ap (counts.countWith (c .before .before .before .before .before .before .before .before .args .mode)) (sym (c .before .before .before .before .before .before .r .given .1 ∙ ap Item (c .before .before .before .i .given .1))) in
+    let e = ap (counts.countWith (c .before .before .before .before .before .before .before .before .args .mode))
+    (sym (c .before .before .before .before .before .before .r .given .1 ∙ ap Item (c .before .before .before .i .given .1))) in
     (omega arith, omega arith)
 
 returns-4 : tie.Need-returns-4
-returns-4 c = (ap (counts.countWith (c .before .before .before .before .before .args .mode)) (sym (c .before .before .before .r .given .1 ∙ ap Item (c .enum-told3 .given .1))), omega arith)
+returns-4 c = (
+  ap (counts.countWith (c .before .before .before .before .before .args .mode))
+      (sym (c .before .before .before .r .given .1 ∙ ap Item (c .enum-told3 .given .1))),
+  omega arith,
+)
 
 pub sent-count-spec : {M : Type 1} → statement M
 sent-count-spec =

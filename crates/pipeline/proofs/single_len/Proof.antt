@@ -28,11 +28,16 @@ own-len-requires c κs = search needs
 
 add-result-2 : tie.Need-add-result-2
 add-result-2 c =
-    let g = lengths.single-length (c .before .before .before .before .args .bytes .now) (c .before .before .before .before .args .head) (c .before .before .before .before .args .key) _ _ (c .before .before .before .before .pre .3) (c .before .before .before .before .pre .1) (c .before .bulklen .ensures) (c .own-len .ensures .0) (c .own-len .ensures .1) .1 in omega arith
+    let g = lengths.single-length (c .before .before .before .before .args .bytes .now) (c .before .before .before .before .args .head)
+    (c .before .before .before .before .args .key) _ _ (c .before .before .before .before .pre .3) (c .before .before .before .before .pre .1)
+    (c .before .bulklen .ensures) (c .own-len .ensures .0) (c .own-len .ensures .1) .1 in
+    omega arith
 
 returns : tie.Need-returns
 returns c =
-    lengths.single-length (c .before .before .before .before .args .bytes .now) (c .before .before .before .before .args .head) (c .before .before .before .before .args .key) _ _ (c .before .before .before .before .pre .3) (c .before .before .before .before .pre .1) (c .before .bulklen .ensures) (c .own-len .ensures .0) (c .own-len .ensures .1)
+    lengths.single-length (c .before .before .before .before .args .bytes .now) (c .before .before .before .before .args .head)
+    (c .before .before .before .before .args .key) _ _ (c .before .before .before .before .pre .3) (c .before .before .before .before .pre .1)
+    (c .before .bulklen .ensures) (c .own-len .ensures .0) (c .own-len .ensures .1)
 
 pub single-len-spec : {M : Type 1} → statement M
 single-len-spec =

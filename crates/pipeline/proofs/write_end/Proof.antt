@@ -6,13 +6,16 @@ use Rattle.pipeline.proofs.write_end.Statement.{statement}
 use Rattle.pipeline.proofs.write_end.Tie as tie
 
 write-exec-requires : tie.Need-write-exec-requires
-write-exec-requires c κs = room-is _ _ _ _ (wrap.end-yes (c .before .before .before .args .transaction) (c .before .if1 .taken)) (c .before .before .before .pre)
+write-exec-requires c κs =
+    room-is _ _ _ _ (wrap.end-yes (c .before .before .before .args .transaction) (c .before .if1 .taken)) (c .before .before .before .pre)
 
 same-length : tie.Need-same-length
 same-length c = search needs
 
 returns : tie.Need-returns
-returns c = wrote-is _ _ _ _ _ _ (wrap.end-yes (c .before .before .before .before .before .before .args .transaction) (c .before .before .before .before .if1 .taken)) (c .before .before .write-exec .ensures)
+returns c =
+    wrote-is _ _ _ _ _ _ (wrap.end-yes (c .before .before .before .before .before .before .args .transaction) (c .before .before .before .before .if1 .taken))
+    (c .before .before .write-exec .ensures)
 
 returns-2 : tie.Need-returns-2
 returns-2 c = wrote-none _ _ _ (wrap.end-no (c .before .before .args .transaction) (c .if1 .left))

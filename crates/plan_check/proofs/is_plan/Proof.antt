@@ -22,12 +22,15 @@ returns : tie.Need-returns Inv-loop μ-loop
 returns c = let a = c .before .before .before .args in sym (check-start (a .plan .now) (sym (c .before .start-ok .ensures) ∙ not-true _ (c .if1 .taken)))
 
 walk-start-requires : tie.Need-walk-start-requires Inv-loop μ-loop
-walk-start-requires c κs = let a = c .before .before .before .args in start-says (a .plan .now) (sym (c .before .start-ok .ensures) ∙ not-false _ (c .if1 .left)) .long
+walk-start-requires c κs =
+    let a = c .before .before .before .args in
+    start-says (a .plan .now) (sym (c .before .start-ok .ensures) ∙ not-false _ (c .if1 .left)) .long
 
 loop-holds : tie.Need-loop-holds Inv-loop μ-loop
 loop-holds c = let a = c .before .before .before .before .args in
     subst (Reached (a .plan .now)) (sym (c .walk-start .ensures))
-    (walk-starts (a .plan .now) (λ i. c .before .before .before .shared-slice-known .given i .fits) (sym (c .before .before .start-ok .ensures) ∙ not-false _ (c .before .if1 .left)))
+    (walk-starts (a .plan .now) (λ i. c .before .before .before .shared-slice-known .given i .fits)
+    (sym (c .before .before .start-ok .ensures) ∙ not-false _ (c .before .if1 .left)))
 
 past-node-requires : tie.Need-past-node-requires Inv-loop μ-loop
 past-node-requires c κs = c .before .before .loop .inv .inside
@@ -41,18 +44,22 @@ enum-told c = search needs
 returns-2 : tie.Need-returns-2 Inv-loop μ-loop
 returns-2 c = let a = c .before .before .before .before .before .before .before .before .before .before .args in
     let l = c .before .before .before .before .before .loop in
-    sym (check-refused (a .plan .now) (l .w) (l .inv) (c .before .before .before .if2 .taken) (sym (c .before .before .past-node .ensures) ∙ c .enum-told .given .1))
+    sym (check-refused (a .plan .now) (l .w) (l .inv) (c .before .before .before .if2 .taken)
+    (sym (c .before .before .past-node .ensures) ∙ c .enum-told .given .1))
 
 loop-less : tie.Need-loop-less Inv-loop μ-loop
 loop-less c = let a = c .before .before .before .before .before .before .before .before .before .before .before .args in
     let l = c .before .before .before .before .before .before .loop in
-    let t = walk-on (a .plan .now) (λ i. c .before .before .before .before .before .before .before .before .before .before .shared-slice-known .given i .fits) (l .w) _ (l .inv) (sym (c .before .before .before .past-node .ensures) ∙ c .before .next .given .1) in
+    let t = walk-on (a .plan .now)
+    (λ i. c .before .before .before .before .before .before .before .before .before .before .shared-slice-known .given i .fits) (l .w) _ (l .inv)
+    (sym (c .before .before .before .past-node .ensures) ∙ c .before .next .given .1) in
     omega (arith, t .1, t .0 .inside)
 
 loop-again : tie.Need-loop-again Inv-loop μ-loop
 loop-again c = let a = c .before .before .before .before .before .before .before .before .before .before .before .args in
     let l = c .before .before .before .before .before .before .loop in
-    walk-on (a .plan .now) (λ i. c .before .before .before .before .before .before .before .before .before .before .shared-slice-known .given i .fits) (l .w) _ (l .inv) (sym (c .before .before .before .past-node .ensures) ∙ c .before .next .given .1) .0
+    walk-on (a .plan .now) (λ i. c .before .before .before .before .before .before .before .before .before .before .shared-slice-known .given i .fits)
+    (l .w) _ (l .inv) (sym (c .before .before .before .past-node .ensures) ∙ c .before .next .given .1) .0
 
 walk-done-requires : tie.Need-walk-done-requires Inv-loop μ-loop
 walk-done-requires c κs = search needs

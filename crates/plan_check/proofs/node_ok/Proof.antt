@@ -33,40 +33,56 @@ value-ok-requires c κs = search needs
 
 returns-2 : tie.Need-returns-2
 unfolding part headFine
-returns-2 c = let a = c .before .before .before .before .before .before .args in c .value-ok .ensures ∙ sym (kind-1 (a .plan .now) (a .h) (c .before .before .if2 .taken))
+returns-2 c =
+    let a = c .before .before .before .before .before .before .args in
+    c .value-ok .ensures ∙ sym (kind-1 (a .plan .now) (a .h) (c .before .before .if2 .taken))
 
 places-ok-requires : tie.Need-places-ok-requires
 places-ok-requires c κs = search needs
 
 returns-3 : tie.Need-returns-3
-returns-3 c = let a = c .before .before .before .before .before .before .args in c .places-ok .ensures ∙ sym (kind-2 (a .plan .now) (a .h) (c .before .if3 .taken))
+returns-3 c =
+    let a = c .before .before .before .before .before .before .args in
+    c .places-ok .ensures ∙ sym (kind-2 (a .plan .now) (a .h) (c .before .if3 .taken))
 
 key-ok-requires : tie.Need-key-ok-requires
 key-ok-requires c κs = search needs
 
 returns-4 : tie.Need-returns-4
-returns-4 c = let a = c .before .before .before .before .before .before .before .args in c .key-ok .ensures ∙ sym (kind-3 (a .plan .now) (a .h) (c .before .if4 .taken))
+returns-4 c =
+    let a = c .before .before .before .before .before .before .before .args in
+    c .key-ok .ensures ∙ sym (kind-3 (a .plan .now) (a .h) (c .before .if4 .taken))
 
 places-ok-requires-2 : tie.Need-places-ok-requires-2
 places-ok-requires-2 c κs = search needs
 
 returns-5 : tie.Need-returns-5
-returns-5 c = let a = c .before .before .before .before .before .before .before .before .args in c .places-ok2 .ensures ∙ sym (kind-4 (a .plan .now) (a .h) (c .before .if5 .taken))
+returns-5 c =
+    let a = c .before .before .before .before .before .before .before .before .args in
+    c .places-ok2 .ensures ∙ sym (kind-4 (a .plan .now) (a .h) (c .before .if5 .taken))
 
 key-ok-requires-2 : tie.Need-key-ok-requires-2
 key-ok-requires-2 c κs = search needs
 
 returns-6 : tie.Need-returns-6
-returns-6 c = let a = c .before .before .before .before .before .before .before .before .before .args in c .key-ok2 .ensures ∙ sym (kind-5 (a .plan .now) (a .h) (c .before .if6 .taken))
+returns-6 c =
+    let a = c .before .before .before .before .before .before .before .before .before .args in
+    c .key-ok2 .ensures ∙ sym (kind-5 (a .plan .now) (a .h) (c .before .if6 .taken))
 
 empty-ok-requires-2 : tie.Need-empty-ok-requires-2
 empty-ok-requires-2 c κs = search needs
 
 returns-7 : tie.Need-returns-7
-returns-7 c = let a = c .before .before .before .before .before .before .before .before .before .before .args in c .empty-ok2 .ensures ∙ sym (kind-6 (a .plan .now) (a .h) (c .before .if7 .taken))
+returns-7 c =
+    let a = c .before .before .before .before .before .before .before .before .before .before .args in
+    c .empty-ok2 .ensures ∙ sym (kind-6 (a .plan .now) (a .h) (c .before .if7 .taken))
 
 returns-8 : tie.Need-returns-8
-returns-8 c = let a = c .before .before .before .before .before .before .before .before .before .args in sym (kind-other (a .plan .now) (a .h) (c .before .before .before .before .before .before .if1 .left) (c .before .before .before .before .before .if2 .left) (c .before .before .before .before .if3 .left) (c .before .before .before .if4 .left) (c .before .before .if5 .left) (c .before .if6 .left) (c .if7 .left))
+returns-8 c =
+    let a = c .before .before .before .before .before .before .before .before .before .args in
+    sym (kind-other (a .plan .now) (a .h) (c .before .before .before .before .before .before .if1 .left)
+    (c .before .before .before .before .before .if2 .left) (c .before .before .before .before .if3 .left) (c .before .before .before .if4 .left)
+    (c .before .before .if5 .left) (c .before .if6 .left) (c .if7 .left))
 
 pub node-ok-spec : {M : Type 1} → statement M
 node-ok-spec =

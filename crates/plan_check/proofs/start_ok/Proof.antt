@@ -24,7 +24,9 @@ same-at-requires c κs = search needs
 
 returns-3 : tie.Need-returns-3
 unfolding encode
-returns-3 c = let a = c .before .before .before .before .before .before .before .args in sym (start-null (a .plan .now) (sym (c .before .same-at .ensures) ∙ not-true _ (c .if3 .taken)))
+returns-3 c =
+    let a = c .before .before .before .before .before .before .before .args in
+    sym (start-null (a .plan .now) (sym (c .before .same-at .ensures) ∙ not-true _ (c .if3 .taken)))
 
 read-u32-requires : tie.Need-read-u32-requires
 read-u32-requires c κs = search needs
@@ -34,7 +36,10 @@ cast-result c = search needs
 
 returns-4 : tie.Need-returns-4
 unfolding encode
-returns-4 c = let a = c .before .before .before .before .before .before .before .before .args in start-count (a .plan .now) _ (c .before .before .before .before .before .before .if1 .left) (c .before .before .before .before .if2 .left) (sym (c .before .before .same-at .ensures) ∙ not-false _ (c .before .if3 .left)) (c .read-u32 .ensures)
+returns-4 c =
+    let a = c .before .before .before .before .before .before .before .before .args in
+    start-count (a .plan .now) _ (c .before .before .before .before .before .before .if1 .left) (c .before .before .before .before .if2 .left)
+    (sym (c .before .before .same-at .ensures) ∙ not-false _ (c .before .if3 .left)) (c .read-u32 .ensures)
 
 pub start-ok-spec : {M : Type 1} → statement M
 start-ok-spec =

@@ -40,7 +40,9 @@ cast-result : tie.Need-cast-result
 cast-result c = search needs
 
 returns-3 : tie.Need-returns-3
-returns-3 c = let a = c .before .before .before .before .before .args in whole-parts (a .plan .now) (a .at) _ _ _ (omega arith) (c .before .before .read-u32 .ensures) (c .read-u322 .ensures) (omega arith)
+returns-3 c =
+    let a = c .before .before .before .before .before .args in
+    whole-parts (a .plan .now) (a .at) _ _ _ (omega arith) (c .before .before .read-u32 .ensures) (c .read-u322 .ensures) (omega arith)
 
 pub whole-at-spec : {M : Type 1} → statement M
 whole-at-spec =

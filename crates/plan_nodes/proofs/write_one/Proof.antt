@@ -27,7 +27,9 @@ sub-write-served : tie.Need-sub-write-served
 sub-write-served c =
     let a = c .before .before .before .before .before .before .before .before .before .before .before .before .before .args in
     let p = c .before .before .before .before .before .before .before .before .before .before .before .before .before .pre in
-    let f = c .before .before .before .before .before .before .before .look-up-key .ensures (wholeKey (commandOf (a .bytes .now) (a .head)) (rangeBytes (a .bytes .now) (a .key))) (laws.whole-is (a .bytes .now) (a .head) (a .key)) (whole-key (a .bytes .now) (a .head) (rangeBytes (a .bytes .now) (a .key))) in
+    let f = c .before .before .before .before .before .before .before .look-up-key .ensures
+    (wholeKey (commandOf (a .bytes .now) (a .head)) (rangeBytes (a .bytes .now) (a .key))) (laws.whole-is (a .bytes .now) (a .head) (a .key))
+    (whole-key (a .bytes .now) (a .head) (rangeBytes (a .bytes .now) (a .key))) in
     let h = found-hit _ _ _ _ _ _ _ _ f (p .3) _ _ (c .before .before .looked .given .1) in
     h .order
 
@@ -35,7 +37,9 @@ part-write-served-start : tie.Need-part-write-served-start
 part-write-served-start c =
     let a = c .before .before .before .before .before .before .before .before .before .before .before .before .before .before .args in
     let p = c .before .before .before .before .before .before .before .before .before .before .before .before .before .before .pre in
-    let f = c .before .before .before .before .before .before .before .before .look-up-key .ensures (wholeKey (commandOf (a .bytes .now) (a .head)) (rangeBytes (a .bytes .now) (a .key))) (laws.whole-is (a .bytes .now) (a .head) (a .key)) (whole-key (a .bytes .now) (a .head) (rangeBytes (a .bytes .now) (a .key))) in
+    let f = c .before .before .before .before .before .before .before .before .look-up-key .ensures
+    (wholeKey (commandOf (a .bytes .now) (a .head)) (rangeBytes (a .bytes .now) (a .key))) (laws.whole-is (a .bytes .now) (a .head) (a .key))
+    (whole-key (a .bytes .now) (a .head) (rangeBytes (a .bytes .now) (a .key))) in
     let h = found-hit _ _ _ _ _ _ _ _ f (p .3) _ _ (c .before .before .before .looked .given .1) in
     h .order
 
@@ -43,7 +47,9 @@ part-write-served-end : tie.Need-part-write-served-end
 part-write-served-end c =
     let a = c .before .before .before .before .before .before .before .before .before .before .before .before .before .before .args in
     let p = c .before .before .before .before .before .before .before .before .before .before .before .before .before .before .pre in
-    let f = c .before .before .before .before .before .before .before .before .look-up-key .ensures (wholeKey (commandOf (a .bytes .now) (a .head)) (rangeBytes (a .bytes .now) (a .key))) (laws.whole-is (a .bytes .now) (a .head) (a .key)) (whole-key (a .bytes .now) (a .head) (rangeBytes (a .bytes .now) (a .key))) in
+    let f = c .before .before .before .before .before .before .before .before .look-up-key .ensures
+    (wholeKey (commandOf (a .bytes .now) (a .head)) (rangeBytes (a .bytes .now) (a .key))) (laws.whole-is (a .bytes .now) (a .head) (a .key))
+    (whole-key (a .bytes .now) (a .head) (rangeBytes (a .bytes .now) (a .key))) in
     let h = found-hit _ _ _ _ _ _ _ _ f (p .3) _ _ (c .before .before .before .looked .given .1) in
     h .inside
 
@@ -52,10 +58,15 @@ unfolding part
 write-served-requires c κs =
     let a = c .before .before .before .before .before .before .before .before .before .before .before .before .before .before .before .args in
     let p = c .before .before .before .before .before .before .before .before .before .before .before .before .before .before .before .pre in
-    let f = c .before .before .before .before .before .before .before .before .before .look-up-key .ensures (wholeKey (commandOf (a .bytes .now) (a .head)) (rangeBytes (a .bytes .now) (a .key))) (laws.whole-is (a .bytes .now) (a .head) (a .key)) (whole-key (a .bytes .now) (a .head) (rangeBytes (a .bytes .now) (a .key))) in
+    let f = c .before .before .before .before .before .before .before .before .before .look-up-key .ensures
+    (wholeKey (commandOf (a .bytes .now) (a .head)) (rangeBytes (a .bytes .now) (a .key))) (laws.whole-is (a .bytes .now) (a .head) (a .key))
+    (whole-key (a .bytes .now) (a .head) (rangeBytes (a .bytes .now) (a .key))) in
     let h = found-hit _ _ _ _ _ _ _ _ f (p .3) _ _ (c .before .before .before .before .looked .given .1) in
-    let r = p .3 in
-    (room-is _ _ _ _ (laws.one-filled (a .g) (r .rows) (a .clock) (a .epoch) (a .expiry) (a .bytes .now) (a .head) (a .key) _ (h .is (r .rows) (r .lent))) (p .4 (r .rows) (r .lent)), h .short)
+    let r = p .3 in (
+      room-is _ _ _ _ (laws.one-filled (a .g) (r .rows) (a .clock) (a .epoch) (a .expiry) (a .bytes .now) (a .head) (a .key) _ (h .is (r .rows) (r .lent)))
+          (p .4 (r .rows) (r .lent)),
+      h .short,
+    )
 
 enum-told : tie.Need-enum-told
 enum-told c = search needs
@@ -68,12 +79,20 @@ unfolding KeyIn
 write-missing-requires c κs =
     let a = c .before .before .before .before .before .before .before .before .before .before .before .before .before .args in
     let p = c .before .before .before .before .before .before .before .before .before .before .before .before .before .pre in
-    let f = c .before .before .before .before .before .before .before .look-up-key .ensures (wholeKey (commandOf (a .bytes .now) (a .head)) (rangeBytes (a .bytes .now) (a .key))) (laws.whole-is (a .bytes .now) (a .head) (a .key)) (whole-key (a .bytes .now) (a .head) (rangeBytes (a .bytes .now) (a .key))) in
+    let f = c .before .before .before .before .before .before .before .look-up-key .ensures
+    (wholeKey (commandOf (a .bytes .now) (a .head)) (rangeBytes (a .bytes .now) (a .key))) (laws.whole-is (a .bytes .now) (a .head) (a .key))
+    (whole-key (a .bytes .now) (a .head) (rangeBytes (a .bytes .now) (a .key))) in
     let r = p .3 in
     let q = found-miss _ _ _ _ _ _ _ _ f _ (c .before .before .enum-told .given .1) (r .rows) (r .lent) in
     let b = range-short (a .bytes .now) (a .key) _ (c .before .bytes-in .ensures) (p .1) in
-    let m = p .2 in
-    (p .0, omega arith, m, room-is _ _ _ _ (laws.one-waiting (a .g) (r .rows) (a .clock) (a .epoch) (a .expiry) (a .bytes .now) (a .head) (a .key) _ _ q (c .before .bytes-in .ensures) refl) (p .4 (r .rows) (r .lent)))
+    let m = p .2 in (
+      p .0,
+      omega arith,
+      m,
+      room-is _ _ _ _
+          (laws.one-waiting (a .g) (r .rows) (a .clock) (a .epoch) (a .expiry) (a .bytes .now) (a .head) (a .key) _ _ q (c .before .bytes-in .ensures) refl)
+          (p .4 (r .rows) (r .lent)),
+    )
 
 same-length : tie.Need-same-length
 same-length c = search needs
@@ -86,11 +105,14 @@ unfolding part
 returns c =
     let a = c .before .before .before .before .before .before .before .before .before .before .before .before .before .before .before .before .before .before .args in
     let p = c .before .before .before .before .before .before .before .before .before .before .before .before .before .before .before .before .before .before .pre in
-    let f = c .before .before .before .before .before .before .before .before .before .before .before .before .look-up-key .ensures (wholeKey (commandOf (a .bytes .now) (a .head)) (rangeBytes (a .bytes .now) (a .key))) (laws.whole-is (a .bytes .now) (a .head) (a .key)) (whole-key (a .bytes .now) (a .head) (rangeBytes (a .bytes .now) (a .key))) in
+    let f = c .before .before .before .before .before .before .before .before .before .before .before .before .look-up-key .ensures
+    (wholeKey (commandOf (a .bytes .now) (a .head)) (rangeBytes (a .bytes .now) (a .key))) (laws.whole-is (a .bytes .now) (a .head) (a .key))
+    (whole-key (a .bytes .now) (a .head) (rangeBytes (a .bytes .now) (a .key))) in
     let h = found-hit _ _ _ _ _ _ _ _ f (p .3) _ _ (c .before .before .before .before .before .before .before .looked .given .1) in (
       f .looks,
       λ rows o.
-          laws.prepares-hit (a .g) rows (a .clock) (a .epoch) (a .expiry) (a .bytes .now) (a .head) (a .key) _ _ (a .to) _ _ _ _ _ (h .order) (h .inside) (h .is rows o) (c .before .before .write-served .ensures),
+          laws.prepares-hit (a .g) rows (a .clock) (a .epoch) (a .expiry) (a .bytes .now) (a .head) (a .key) _ _ (a .to) _ _ _ _ _ (h .order) (h .inside)
+          (h .is rows o) (c .before .before .write-served .ensures),
     )
 
 same-length-3 : tie.Need-same-length-3
@@ -103,10 +125,15 @@ returns-2 : tie.Need-returns-2
 returns-2 c =
     let a = c .before .before .before .before .before .before .before .before .before .before .before .before .before .before .before .before .args in
     let p = c .before .before .before .before .before .before .before .before .before .before .before .before .before .before .before .before .pre in
-    let f = c .before .before .before .before .before .before .before .before .before .before .look-up-key .ensures (wholeKey (commandOf (a .bytes .now) (a .head)) (rangeBytes (a .bytes .now) (a .key))) (laws.whole-is (a .bytes .now) (a .head) (a .key)) (whole-key (a .bytes .now) (a .head) (rangeBytes (a .bytes .now) (a .key))) in (
+    let f = c .before .before .before .before .before .before .before .before .before .before .look-up-key .ensures
+    (wholeKey (commandOf (a .bytes .now) (a .head)) (rangeBytes (a .bytes .now) (a .key))) (laws.whole-is (a .bytes .now) (a .head) (a .key))
+    (whole-key (a .bytes .now) (a .head) (rangeBytes (a .bytes .now) (a .key))) in (
       f .looks,
       λ rows o.
-          laws.prepares-miss (a .g) rows (a .clock) (a .epoch) (a .expiry) (a .bytes .now) (a .head) (a .key) _ _ (a .to) _ _ _ (c .before .before .before .before .before .enum-told .given .0 .0) _ _ (p .1) (found-miss _ _ _ _ _ _ _ _ f _ (c .before .before .before .before .before .enum-told .given .1) rows o) (c .before .before .before .before .bytes-in .ensures) refl (c .before .before .write-missing .ensures),
+          laws.prepares-miss (a .g) rows (a .clock) (a .epoch) (a .expiry) (a .bytes .now) (a .head) (a .key) _ _ (a .to) _ _ _
+          (c .before .before .before .before .before .enum-told .given .0 .0) _ _ (p .1)
+          (found-miss _ _ _ _ _ _ _ _ f _ (c .before .before .before .before .before .enum-told .given .1) rows o)
+          (c .before .before .before .before .bytes-in .ensures) refl (c .before .before .write-missing .ensures),
     )
 
 pub write-one-spec : {M : Type 1} → statement M

@@ -22,7 +22,8 @@ sub-write-served : tie.Need-sub-write-served
 sub-write-served c =
     let a = c .before .before .before .before .before .before .before .before .before .before .before .before .before .before .args in
     let p = c .before .before .before .before .before .before .before .before .before .before .before .before .before .before .pre in
-    let f = c .before .before .before .before .before .before .before .look-up-key .ensures (wantAt (a .bytes .now) (a .v) (a .key)) (laws.want-key (a .bytes .now) (a .v) (a .key)) (part-key (a .bytes .now) (a .v) (a .key) (p .0)) in
+    let f = c .before .before .before .before .before .before .before .look-up-key .ensures (wantAt (a .bytes .now) (a .v) (a .key))
+    (laws.want-key (a .bytes .now) (a .v) (a .key)) (part-key (a .bytes .now) (a .v) (a .key) (p .0)) in
     let h = laws.found-hit _ _ _ _ _ _ _ _ f (p .3) _ _ (c .before .before .looked .given .1) in
     h .order
 
@@ -30,7 +31,8 @@ part-write-served-start : tie.Need-part-write-served-start
 part-write-served-start c =
     let a = c .before .before .before .before .before .before .before .before .before .before .before .before .before .before .before .args in
     let p = c .before .before .before .before .before .before .before .before .before .before .before .before .before .before .before .pre in
-    let f = c .before .before .before .before .before .before .before .before .look-up-key .ensures (wantAt (a .bytes .now) (a .v) (a .key)) (laws.want-key (a .bytes .now) (a .v) (a .key)) (part-key (a .bytes .now) (a .v) (a .key) (p .0)) in
+    let f = c .before .before .before .before .before .before .before .before .look-up-key .ensures (wantAt (a .bytes .now) (a .v) (a .key))
+    (laws.want-key (a .bytes .now) (a .v) (a .key)) (part-key (a .bytes .now) (a .v) (a .key) (p .0)) in
     let h = laws.found-hit _ _ _ _ _ _ _ _ f (p .3) _ _ (c .before .before .before .looked .given .1) in
     h .order
 
@@ -38,7 +40,8 @@ part-write-served-end : tie.Need-part-write-served-end
 part-write-served-end c =
     let a = c .before .before .before .before .before .before .before .before .before .before .before .before .before .before .before .args in
     let p = c .before .before .before .before .before .before .before .before .before .before .before .before .before .before .before .pre in
-    let f = c .before .before .before .before .before .before .before .before .look-up-key .ensures (wantAt (a .bytes .now) (a .v) (a .key)) (laws.want-key (a .bytes .now) (a .v) (a .key)) (part-key (a .bytes .now) (a .v) (a .key) (p .0)) in
+    let f = c .before .before .before .before .before .before .before .before .look-up-key .ensures (wantAt (a .bytes .now) (a .v) (a .key))
+    (laws.want-key (a .bytes .now) (a .v) (a .key)) (part-key (a .bytes .now) (a .v) (a .key) (p .0)) in
     let h = laws.found-hit _ _ _ _ _ _ _ _ f (p .3) _ _ (c .before .before .before .looked .given .1) in
     h .inside
 
@@ -47,7 +50,8 @@ unfolding part
 write-served-requires c κs =
     let a = c .before .before .before .before .before .before .before .before .before .before .before .before .before .before .before .before .args in
     let p = c .before .before .before .before .before .before .before .before .before .before .before .before .before .before .before .before .pre in
-    let f = c .before .before .before .before .before .before .before .before .before .look-up-key .ensures (wantAt (a .bytes .now) (a .v) (a .key)) (laws.want-key (a .bytes .now) (a .v) (a .key)) (part-key (a .bytes .now) (a .v) (a .key) (p .0)) in
+    let f = c .before .before .before .before .before .before .before .before .before .look-up-key .ensures (wantAt (a .bytes .now) (a .v) (a .key))
+    (laws.want-key (a .bytes .now) (a .v) (a .key)) (part-key (a .bytes .now) (a .v) (a .key) (p .0)) in
     let h = laws.found-hit _ _ _ _ _ _ _ _ f (p .3) _ _ (c .before .before .before .before .looked .given .1) in
     let r = p .3 in
     (room-is _ _ _ _ (laws.node-filled _ _ _ (h .is (r .rows) (r .lent))) (p .4 (r .rows) (r .lent)), h .short)
@@ -62,7 +66,8 @@ write-missing-requires : tie.Need-write-missing-requires
 write-missing-requires c κs =
     let a = c .before .before .before .before .before .before .before .before .before .before .before .before .before .before .args in
     let p = c .before .before .before .before .before .before .before .before .before .before .before .before .before .before .pre in
-    let f = c .before .before .before .before .before .before .before .look-up-key .ensures (wantAt (a .bytes .now) (a .v) (a .key)) (laws.want-key (a .bytes .now) (a .v) (a .key)) (part-key (a .bytes .now) (a .v) (a .key) (p .0)) in
+    let f = c .before .before .before .before .before .before .before .look-up-key .ensures (wantAt (a .bytes .now) (a .v) (a .key))
+    (laws.want-key (a .bytes .now) (a .v) (a .key)) (part-key (a .bytes .now) (a .v) (a .key) (p .0)) in
     let r = p .3 in
     let q = laws.found-miss _ _ _ _ _ _ _ _ f _ (c .before .before .enum-told .given .1) (r .rows) (r .lent) in
     let b = range-short (a .bytes .now) (a .key) _ (c .before .bytes-in .ensures) (p .1) in
@@ -70,11 +75,14 @@ write-missing-requires c κs =
       part-in (a .bytes .now) (a .v) (a .key) (p .0) (p .1) m,
       omega arith,
       m,
-      room-is _ _ _ _ (laws.node-waiting _ _ _ _ _ q (c .before .bytes-in .ensures ∙ sym (laws.want-key (a .bytes .now) (a .v) (a .key))) (part-key (a .bytes .now) (a .v) (a .key) (p .0))) (p .4 (r .rows) (r .lent)),
+      room-is _ _ _ _ (laws.node-waiting _ _ _ _ _ q (c .before .bytes-in .ensures ∙ sym (laws.want-key (a .bytes .now) (a .v) (a .key)))
+          (part-key (a .bytes .now) (a .v) (a .key) (p .0))) (p .4 (r .rows) (r .lent)),
     )
 
 add-t33 : tie.Need-add-t33
-add-t33 c = let p = c .before .before .before .before .before .before .before .before .before .before .before .before .before .before .before .before .before .before .pre .5 in omega arith
+add-t33 c =
+    let p = c .before .before .before .before .before .before .before .before .before .before .before .before .before .before .before .before .before .before .pre .5 in
+    omega arith
 
 same-length : tie.Need-same-length
 same-length c = search needs
@@ -87,7 +95,8 @@ unfolding part
 returns c =
     let a = c .before .before .before .before .before .before .before .before .before .before .before .before .before .before .before .before .before .before .before .args in
     let p = c .before .before .before .before .before .before .before .before .before .before .before .before .before .before .before .before .before .before .before .pre in
-    let f = c .before .before .before .before .before .before .before .before .before .before .before .before .look-up-key .ensures (wantAt (a .bytes .now) (a .v) (a .key)) (laws.want-key (a .bytes .now) (a .v) (a .key)) (part-key (a .bytes .now) (a .v) (a .key) (p .0)) in
+    let f = c .before .before .before .before .before .before .before .before .before .before .before .before .look-up-key .ensures
+    (wantAt (a .bytes .now) (a .v) (a .key)) (laws.want-key (a .bytes .now) (a .v) (a .key)) (part-key (a .bytes .now) (a .v) (a .key) (p .0)) in
     let h = laws.found-hit _ _ _ _ _ _ _ _ f (p .3) _ _ (c .before .before .before .before .before .before .before .looked .given .1) in
     laws.placed-hit _ _ _ _ _ _ _ _ _ _ _ f _ _ _ h (c .before .before .write-served .ensures)
 
@@ -101,8 +110,12 @@ returns-2 : tie.Need-returns-2
 returns-2 c =
     let a = c .before .before .before .before .before .before .before .before .before .before .before .before .before .before .before .before .before .before .args in
     let p = c .before .before .before .before .before .before .before .before .before .before .before .before .before .before .before .before .before .before .pre in
-    let f = c .before .before .before .before .before .before .before .before .before .before .before .look-up-key .ensures (wantAt (a .bytes .now) (a .v) (a .key)) (laws.want-key (a .bytes .now) (a .v) (a .key)) (part-key (a .bytes .now) (a .v) (a .key) (p .0)) in
-    laws.placed-miss _ _ _ _ _ _ _ _ _ _ _ f _ _ _ _ (c .before .before .before .before .before .before .enum-told .given .1) (c .before .before .before .before .before .bytes-in .ensures ∙ sym (laws.want-key (a .bytes .now) (a .v) (a .key))) (part-key (a .bytes .now) (a .v) (a .key) (p .0)) (laws.want-fits (a .bytes .now) (a .v) (a .key) (p .0) (p .1) (p .2)) (c .before .before .before .write-missing .ensures)
+    let f = c .before .before .before .before .before .before .before .before .before .before .before .look-up-key .ensures
+    (wantAt (a .bytes .now) (a .v) (a .key)) (laws.want-key (a .bytes .now) (a .v) (a .key)) (part-key (a .bytes .now) (a .v) (a .key) (p .0)) in
+    laws.placed-miss _ _ _ _ _ _ _ _ _ _ _ f _ _ _ _ (c .before .before .before .before .before .before .enum-told .given .1)
+    (c .before .before .before .before .before .bytes-in .ensures ∙ sym (laws.want-key (a .bytes .now) (a .v) (a .key)))
+    (part-key (a .bytes .now) (a .v) (a .key) (p .0)) (laws.want-fits (a .bytes .now) (a .v) (a .key) (p .0) (p .1) (p .2))
+    (c .before .before .before .write-missing .ensures)
 
 pub write-place-spec : {M : Type 1} → statement M
 write-place-spec =

@@ -8,7 +8,8 @@ use Rattle.plan_nodes.proofs.write_places.Statement.{statement}
 use Rattle.plan_nodes.proofs.write_places.Tie as tie
 
 abbrev Inv-loop : tie.InvT-loop
-Inv-loop plan₀ arena₀ bytes v expiry g clock epoch k₀ left₀ y₀ plan arena k left y = laws.Writing g clock epoch expiry bytes v arena₀ plan₀ y₀ k left arena plan y
+Inv-loop plan₀ arena₀ bytes v expiry g clock epoch k₀ left₀ y₀ plan arena k left y =
+    laws.Writing g clock epoch expiry bytes v arena₀ plan₀ y₀ k left arena plan y
 
 abbrev μ-loop : tie.MeasureT-loop
 μ-loop plan₀ arena₀ bytes v expiry g clock epoch k₀ left₀ y₀ plan arena k left y = left
@@ -29,8 +30,15 @@ write-place-requires c κs =
     let f = keys-few _ _ (p .0) in
     let m = p .1 in
     let o = p .4 in
-    let b = h .few in
-    (p .0, i .inside, m, h .turn .arena, laws.writing-room _ _ _ _ _ _ _ _ _ (p .2) _ l (l - 1) _ _ _ (c .before .before .before .next-key .result) q i h, omega arith)
+    let b = h .few in (
+      p .0,
+      i .inside,
+      m,
+      h .turn .arena,
+      laws.writing-room _ _ _ _ _ _ _ _ _ (p .2) _ l (l - 1) _ _ _
+          (c .before .before .before .next-key .result) q i h,
+      omega arith,
+    )
 
 sub-left : tie.Need-sub-left Inv-loop μ-loop
 sub-left c = omega arith
@@ -43,7 +51,11 @@ loop-again c =
     let p = c .before .before .before .before .before .before .before .before .before .before .before .before .before .before .before .before .pre in
     let l : ℕ = c .before .before .before .before .before .before .before .before .before .before .before .loop .left in
     let q : l ≡ l - 1 + 1 = omega arith in
-    laws.writing-next _ _ _ _ _ _ _ _ _ (p .2) _ l (l - 1) _ _ _ (c .before .before .before .before .before .before .before .before .before .next-key .result) q (c .before .before .before .before .before .before .before .before .before .next-key .ensures) (c .before .before .before .before .before .before .before .before .before .before .before .loop .inv) _ _ _ (c .before .before .before .before .before .write-place .ensures) (c .before .before .arena .given)
+    laws.writing-next _ _ _ _ _ _ _ _ _ (p .2) _ l (l - 1) _ _ _
+    (c .before .before .before .before .before .before .before .before .before .next-key .result) q
+    (c .before .before .before .before .before .before .before .before .before .next-key .ensures)
+    (c .before .before .before .before .before .before .before .before .before .before .before .loop .inv) _ _ _
+    (c .before .before .before .before .before .write-place .ensures) (c .before .before .arena .given)
 
 same-length : tie.Need-same-length Inv-loop μ-loop
 same-length c = let r = c .before .before .before .before .before .before .pre .2 in c .before .loop .inv .copied (r .rows) (r .lent) .long

@@ -29,7 +29,10 @@ sent-count-requires c κs =
     laws.prepared-count (a .g .mode) _ _ _ _ _ _ _ _ _ (a .head) _ _ (w .1) (y .1 (q .rows) (q .lent)) .1
 
 add-t26 : tie.Need-add-t26
-add-t26 c = let w = c .before .before .before .before .before .before .before .before .before .before .before .before .before .before .before .before .before .before .before .before .pre .5 in let n = c .before .before .sent-count .ensures .1 in omega arith
+add-t26 c =
+    let w = c .before .before .before .before .before .before .before .before .before .before .before .before .before .before .before .before .before .before .before .before .pre .5 in
+    let n = c .before .before .sent-count .ensures .1 in
+    omega arith
 
 same-length : tie.Need-same-length
 same-length c = search needs
@@ -50,8 +53,11 @@ returns c =
     let b = n .1 in (
       record {
         plan = λ rows o. y .1 rows o .wrote;
-        send = λ rows o. wrote-as _ _ _ _ _ _ (laws.prepared-sent (a .g .mode) _ _ _ _ _ _ _ _ _ (a .head) _ _ (w .1) (y .1 rows o) .0) (c .before .before .before .before .before .write-sent .ensures);
-        count = λ rows o. ap (λ (z : ℕ). a .x .sent + z) (n .0 ∙ sym (laws.prepared-count (a .g .mode) _ _ _ _ _ _ _ _ _ (a .head) _ _ (w .1) (y .1 rows o) .0));
+        send =
+            λ rows o. wrote-as _ _ _ _ _ _ (laws.prepared-sent (a .g .mode) _ _ _ _ _ _ _ _ _ (a .head) _ _ (w .1) (y .1 rows o) .0)
+            (c .before .before .before .before .before .write-sent .ensures);
+        count =
+            λ rows o. ap (λ (z : ℕ). a .x .sent + z) (n .0 ∙ sym (laws.prepared-count (a .g .mode) _ _ _ _ _ _ _ _ _ (a .head) _ _ (w .1) (y .1 rows o) .0));
         looks = y .0;
       },
       omega arith,

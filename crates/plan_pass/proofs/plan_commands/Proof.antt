@@ -11,7 +11,8 @@ use Rattle.plan_pass.proofs.plan_commands.Statement.{statement}
 use Rattle.plan_pass.proofs.plan_commands.Tie as tie
 
 abbrev Inv-loop : tie.InvT-loop
-Inv-loop arena₀ plan₀ send₀ bytes g clock epoch at₀ left₀ y₀ arena plan send at left y = laws.Going g clock epoch bytes left₀ at₀ arena₀ plan₀ send₀ y₀ left at arena plan send y
+Inv-loop arena₀ plan₀ send₀ bytes g clock epoch at₀ left₀ y₀ arena plan send at left y =
+    laws.Going g clock epoch bytes left₀ at₀ arena₀ plan₀ send₀ y₀ left at arena plan send y
 
 abbrev μ-loop : tie.MeasureT-loop
 μ-loop arena₀ plan₀ send₀ bytes g clock epoch at₀ left₀ y₀ arena plan send at left y = left
@@ -28,11 +29,21 @@ plan-command-requires c κs =
     let i = c .before .before .before .before .before .loop .inv in
     let r = laws.going-room _ _ _ _ _ _ _ _ _ _ _ _ _ _ _ _ _ _ (one-more _ (λ z. omega arith)) (c .before .before .before .head-at .ensures) i in
     let f = i .few in
-    let v = w .4 in
-    (planable-first _ _ _ _ _ _ (one-more _ (λ z. omega arith)) (c .before .before .before .before .before .loop .inv .ahead) _ (c .before .before .before .head-at .ensures), w .1, i .arena, r .0, r .1, omega arith)
+    let v = w .4 in (
+      planable-first _ _ _ _ _ _ (one-more _ (λ z. omega arith)) (c .before .before .before .before .before .loop .inv .ahead) _
+          (c .before .before .before .head-at .ensures),
+      w .1,
+      i .arena,
+      r .0,
+      r .1,
+      omega arith,
+    )
 
 args-end-requires : tie.Need-args-end-requires Inv-loop μ-loop
-args-end-requires c κs = planable-first _ _ _ _ _ _ (one-more _ (λ z. omega arith)) (c .before .before .before .before .before .before .before .before .before .before .before .before .loop .inv .ahead) _ (c .before .before .before .before .before .before .before .before .before .before .head-at .ensures) .here
+args-end-requires c κs =
+    planable-first _ _ _ _ _ _ (one-more _ (λ z. omega arith))
+    (c .before .before .before .before .before .before .before .before .before .before .before .before .loop .inv .ahead) _
+    (c .before .before .before .before .before .before .before .before .before .before .head-at .ensures) .here
 
 sub-left : tie.Need-sub-left Inv-loop μ-loop
 sub-left c = omega arith
@@ -44,9 +55,14 @@ loop-again : tie.Need-loop-again Inv-loop μ-loop
 loop-again c =
     let l : ℕ = c .before .before .before .before .before .before .before .before .before .before .before .before .before .loop .left in
     let d = c .before .before .before .before .before .before .before .before .before .before .before .head-at .ensures in
-    let f = c .args-end .ensures ∙ ap (λ (x : Head). argsEnd (c .before .before .before .before .before .before .before .before .before .before .before .before .before .before .before .before .before .before .args .bytes .now) (x .args .left) (x .args .at)) d in
+    let f = c .args-end .ensures ∙ ap
+    (λ (x : Head). argsEnd
+    (c .before .before .before .before .before .before .before .before .before .before .before .before .before .before .before .before .before .before .args .bytes .now)
+    (x .args .left) (x .args .at)) d in
     let o = c .before .before .before .before .before .before .before .plan-command .ensures in
-    laws.going-next _ _ _ _ _ _ _ _ _ _ l (l - 1) _ _ _ _ _ _ _ _ _ _ _ (one-more l (λ z. omega arith)) d f (o .0) (o .1) (c .before .before .before .before .before .before .arena .given) (c .before .before .before .before .before .before .before .before .before .before .before .before .before .loop .inv)
+    laws.going-next _ _ _ _ _ _ _ _ _ _ l (l - 1) _ _ _ _ _ _ _ _ _ _ _ (one-more l (λ z. omega arith)) d f (o .0) (o .1)
+    (c .before .before .before .before .before .before .arena .given)
+    (c .before .before .before .before .before .before .before .before .before .before .before .before .before .loop .inv)
 
 same-length : tie.Need-same-length Inv-loop μ-loop
 same-length c = c .before .loop .inv .long

@@ -12,7 +12,10 @@ key-len-requires : tie.Need-key-len-requires
 key-len-requires c κs = search needs
 
 add-result-2 : tie.Need-add-result-2
-add-result-2 c = let b = key-bound (c .before .before .before .args .source .now) (c .before .before .before .args .command) (c .before .before .before .pre .0) in let e = c .key-len .ensures in omega arith
+add-result-2 c =
+    let b = key-bound (c .before .before .before .args .source .now) (c .before .before .before .args .command) (c .before .before .before .pre .0) in
+    let e = c .key-len .ensures in
+    omega arith
 
 returns : tie.Need-returns
 returns c = search needs

@@ -39,8 +39,12 @@ returns c =
     c .before .before .write-u64 .ensures
     ∙ ap (λ (z : Bytes). put z (a .to + 12) (le64 (a .number)))
     (c .before .before .before .before .before .before .write-u323 .ensures
-    ∙ ap (λ (z : Bytes). put z (a .to + 8) (le32 (a .second))) (c .before .before .before .before .before .before .before .before .before .before .write-u322 .ensures ∙ ap (λ (z : Bytes). put z (a .to + 4) (le32 (a .first))) (c .before .before .before .before .before .before .before .before .before .before .before .before .before .before .write-u32 .ensures)))
-    ∙ node-head-written (a .dst .now) (a .to) (a .kind) (a .first) (a .second) (a .number) (c .before .before .before .before .before .before .before .before .before .before .before .before .before .before .before .before .before .pre)
+    ∙ ap (λ (z : Bytes). put z (a .to + 8) (le32 (a .second)))
+    (c .before .before .before .before .before .before .before .before .before .before .write-u322 .ensures
+    ∙ ap (λ (z : Bytes). put z (a .to + 4) (le32 (a .first)))
+    (c .before .before .before .before .before .before .before .before .before .before .before .before .before .before .write-u32 .ensures)))
+    ∙ node-head-written (a .dst .now) (a .to) (a .kind) (a .first) (a .second) (a .number)
+    (c .before .before .before .before .before .before .before .before .before .before .before .before .before .before .before .before .before .pre)
 
 pub write-node-head-spec : {M : Type 1} → statement M
 write-node-head-spec =

@@ -23,15 +23,27 @@ copy-to-requires : tie.Need-copy-to-requires
 copy-to-requires c κs = let l = length-set (c .before .before .before .before .args .dst .now) 0 (c .before .before .flags .result) in omega arith
 
 write-u32-requires : tie.Need-write-u32-requires
-write-u32-requires c κs = let l = length-set (c .before .before .before .before .before .before .before .before .args .dst .now) 0 (c .before .before .before .before .before .before .flags .result) in omega arith
+write-u32-requires c κs =
+    let l = length-set (c .before .before .before .before .before .before .before .before .args .dst .now) 0
+    (c .before .before .before .before .before .before .flags .result) in
+    omega arith
 
 same-length : tie.Need-same-length
-same-length c = let l = length-set (c .before .before .before .before .before .before .before .before .before .before .before .args .dst .now) 0 (c .before .before .before .before .before .before .before .before .before .flags .result) in omega arith
+same-length c =
+    let l = length-set (c .before .before .before .before .before .before .before .before .before .before .before .args .dst .now) 0
+    (c .before .before .before .before .before .before .before .before .before .flags .result) in
+    omega arith
 
 returns : tie.Need-returns
 returns c =
-    let a = c .before .before .before .before .before .before .before .before .before .before .before .args in
-    (refl, c .before .before .write-u32 .ensures ∙ ap (λ (z : Bytes). put z 4 (le32 (a .commands))) (c .before .before .before .before .before .before .copy-to .ensures) ∙ plan-head-written (a .dst .now) (c .before .before .before .before .before .before .before .before .before .flags .result) (a .transaction) (a .commands) (c .before .before .before .before .before .before .before .before .before .flags .ensures) (c .before .before .before .before .before .before .before .before .before .before .before .pre))
+    let a = c .before .before .before .before .before .before .before .before .before .before .before .args in (
+      refl,
+      c .before .before .write-u32 .ensures ∙ ap (λ (z : Bytes). put z 4 (le32 (a .commands)))
+          (c .before .before .before .before .before .before .copy-to .ensures)
+          ∙ plan-head-written (a .dst .now) (c .before .before .before .before .before .before .before .before .before .flags .result) (a .transaction)
+          (a .commands) (c .before .before .before .before .before .before .before .before .before .flags .ensures)
+          (c .before .before .before .before .before .before .before .before .before .before .before .pre),
+    )
 
 pub write-plan-head-spec : {M : Type 1} → statement M
 write-plan-head-spec =

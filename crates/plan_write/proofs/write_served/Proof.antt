@@ -35,8 +35,12 @@ same-length c = search needs
 returns : tie.Need-returns
 returns c =
     let a = c .before .before .before .before .before .before .before .before .before .before .args in
-    let l = length-node 1 (a .value .now) [] 0 in
-    (omega arith, c .before .before .copy-to .ensures ∙ ap (λ (z : Bytes). put z (a .to + 20) (a .value .now)) (c .before .before .before .before .before .before .write-node-head .ensures) ∙ node-first (a .dst .now) (a .to) 1 (a .value .now) 0 (c .before .before .before .before .before .before .before .before .before .before .pre .0))
+    let l = length-node 1 (a .value .now) [] 0 in (
+      omega arith,
+      c .before .before .copy-to .ensures ∙ ap (λ (z : Bytes). put z (a .to + 20) (a .value .now))
+          (c .before .before .before .before .before .before .write-node-head .ensures)
+          ∙ node-first (a .dst .now) (a .to) 1 (a .value .now) 0 (c .before .before .before .before .before .before .before .before .before .before .pre .0),
+    )
 
 pub write-served-spec : {M : Type 1} → statement M
 write-served-spec =

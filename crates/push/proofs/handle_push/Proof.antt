@@ -29,7 +29,11 @@ returns c = λ next.
     push-refused _ _ refl _ _ next (is-admitted _ _ _ _ _ _ _ next w ∙ bad-bytes _ _ _ _ (sym (c .before .is-value .ensures) ∙ not-true _ (c .if1 .taken)))
 
 push-in-requires : tie.Need-push-in-requires
-push-in-requires c κs = (enter _ _ _ _ _ (sym (c .before .before .before .before .before .before .admit .ensures) ∙ c .before .before .before .before .g .given .1), one-value _ (sym (c .before .before .is-value .ensures) ∙ not-false _ (c .before .if1 .left)))
+push-in-requires c κs = (
+  enter _ _ _ _ _ (sym (c .before .before .before .before .before .before .admit .ensures) ∙ c .before .before .before .before .g .given .1),
+  one-value _
+      (sym (c .before .before .is-value .ensures) ∙ not-false _ (c .before .if1 .left)),
+)
 
 same-length-2 : tie.Need-same-length-2
 same-length-2 c = search needs
@@ -44,7 +48,9 @@ same-length-3 c = search needs
 
 returns-3 : tie.Need-returns-3
 returns-3 c = λ next.
-    let w = admits _ _ _ _ _ (sym (c .before .before .before .before .before .before .before .before .before .admit .ensures) ∙ c .before .before .before .before .before .before .before .g .given .1) in
+    let w = admits _ _ _ _ _
+    (sym (c .before .before .before .before .before .before .before .before .before .admit .ensures)
+    ∙ c .before .before .before .before .before .before .before .g .given .1) in
     let e = sym (c .before .before .before .before .before .is-value .ensures) ∙ not-false _ (c .before .before .before .before .if1 .left) in
     push-left _ _ _ _ _ _ next _ _ (is-admitted _ _ _ _ _ _ _ next w ∙ good-bytes _ _ _ _ e) (c .before .before .push-in .kept .0)
     (c .before .before .push-in .ensures _ _ (value-means _ e) (record { lent = w .lent; counts = refl }))

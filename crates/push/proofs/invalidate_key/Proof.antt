@@ -27,7 +27,9 @@ same-length c = search needs
 returns-2 : tie.Need-returns-2
 returns-2 c = λ v bk m k.
     let i = c .before .before .before .invalidate .ensures (bk .rows) (k .lent) in
-    kept-key _ _ _ bk k v _ _ _ _ (c .before .before .before .before .blob .ensures .0 v m) (sym (c .before .before .before .before .before .before .before .is-blob .ensures v m) ∙ not-false _ (c .before .before .before .before .before .before .if1 .left)) (i .0) (i .1) (c .dropped .ensures)
+    kept-key _ _ _ bk k v _ _ _ _ (c .before .before .before .before .blob .ensures .0 v m)
+    (sym (c .before .before .before .before .before .before .before .is-blob .ensures v m)
+    ∙ not-false _ (c .before .before .before .before .before .before .if1 .left)) (i .0) (i .1) (c .dropped .ensures)
 
 pub invalidate-key-spec : {M : Type 1} → statement M
 invalidate-key-spec =

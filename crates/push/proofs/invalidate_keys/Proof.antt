@@ -26,10 +26,14 @@ loop-holds : tie.Need-loop-holds Inv-loop μ-loop
 loop-holds c = (refl, λ vs bk st k. record { rest = vs; stands = st; book = bk; kept = k; leads = refl })
 
 element-requires : tie.Need-element-requires Inv-loop μ-loop
-element-requires c κs = let r = c .before .before .before .before .before .before .pre in c .before .before .before .loop .inv .1 (r .1 .values) _ (r .1 .stands) (some-kept _ _ _ (r .0)) .stands .inside
+element-requires c κs =
+    let r = c .before .before .before .before .before .before .pre in
+    c .before .before .before .loop .inv .1 (r .1 .values) _ (r .1 .stands) (some-kept _ _ _ (r .0)) .stands .inside
 
 invalidate-key-requires : tie.Need-invalidate-key-requires Inv-loop μ-loop
-invalidate-key-requires c κs = let r = c .before .before .before .before .before .before .before .pre in kept-arena _ _ _ _ (c .before .before .before .before .loop .inv .1 (r .1 .values) _ (r .1 .stands) (some-kept _ _ _ (r .0)) .kept)
+invalidate-key-requires c κs =
+    let r = c .before .before .before .before .before .before .before .pre in
+    kept-arena _ _ _ _ (c .before .before .before .before .loop .inv .1 (r .1 .values) _ (r .1 .stands) (some-kept _ _ _ (r .0)) .kept)
 
 next-requires : tie.Need-next-requires Inv-loop μ-loop
 next-requires c κs = c .before .before .before .before .before .if1 .taken
@@ -37,13 +41,16 @@ next-requires c κs = c .before .before .before .before .before .if1 .taken
 loop-less : tie.Need-loop-less Inv-loop μ-loop
 loop-less c = let r = c .before .before .before .before .before .before .before .before .before .before .before .pre in
     let h = c .before .before .before .before .before .before .if1 .taken in
-    next-less _ _ _ (λ e. omega (arith, e)) (c .next .ensures .0) (going-standing _ _ _ _ _ _ (c .before .before .before .before .before .before .before .before .loop .inv .1 (r .1 .values) _ (r .1 .stands) (some-kept _ _ _ (r .0))))
+    next-less _ _ _ (λ e. omega (arith, e)) (c .next .ensures .0)
+    (going-standing _ _ _ _ _ _
+    (c .before .before .before .before .before .before .before .before .loop .inv .1 (r .1 .values) _ (r .1 .stands) (some-kept _ _ _ (r .0))))
 
 loop-again : tie.Need-loop-again Inv-loop μ-loop
 loop-again c = let l = c .before .before .before .before .before .before .before .before .loop in
     let h = c .before .before .before .before .before .before .if1 .taken in (
       c .before .before .before .invalidate-key .kept .0 ∙ l .inv .0,
-      λ vs bk st k. going-on _ _ _ _ _ _ (l .inv .1 vs bk st k) _ _ _ _ (λ e. omega (arith, e)) (c .before .before .before .before .element .ensures .0) (c .next .ensures .0) (c .before .before .before .invalidate-key .ensures),
+      λ vs bk st k. going-on _ _ _ _ _ _ (l .inv .1 vs bk st k) _ _ _ _ (λ e. omega (arith, e)) (c .before .before .before .before .element .ensures .0)
+          (c .next .ensures .0) (c .before .before .before .invalidate-key .ensures),
     )
 
 same-length : tie.Need-same-length Inv-loop μ-loop

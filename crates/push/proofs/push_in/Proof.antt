@@ -15,8 +15,12 @@ enum-known-c c = search needs
 
 by-elements-requires : tie.Need-by-elements-requires
 by-elements-requires c κs = let a = c .before .before .before .before .before .before .before .args in
-    let r = c .before .before .before .before .before .before .before .pre in
-    (r .0, list-there _ _ (pushOf (r .1 .value)) (holds-of (a .bytes .now) _ _ (pushOf (r .1 .value)) (c .before .before .c .given .1) (c .before .before .before .before .push .ensures .0 (r .1 .value) (r .1 .means))))
+    let r = c .before .before .before .before .before .before .before .pre in (
+      r .0,
+      list-there _ _ (pushOf (r .1 .value))
+          (holds-of (a .bytes .now) _ _ (pushOf (r .1 .value)) (c .before .before .c .given .1)
+          (c .before .before .before .before .push .ensures .0 (r .1 .value) (r .1 .means))),
+    )
 
 enum-told : tie.Need-enum-told
 enum-told c = search needs
@@ -28,13 +32,16 @@ returns : tie.Need-returns
 unfolding pushed
 returns c = λ v bk m k.
     let a = c .before .before .before .before .before .before .before .before .before .before .args in
-    by-push _ (a .bytes .now) _ _ _ bk (pushOf v) (holds-of (a .bytes .now) _ _ (pushOf v) (c .before .before .before .before .before .c .given .1) (c .before .before .before .before .before .before .before .push .ensures .0 v m)) (λ vs st. c .before .before .by-elements .ensures vs bk st k)
+    by-push _ (a .bytes .now) _ _ _ bk (pushOf v)
+    (holds-of (a .bytes .now) _ _ (pushOf v) (c .before .before .before .before .before .c .given .1)
+    (c .before .before .before .before .before .before .before .push .ensures .0 v m)) (λ vs st. c .before .before .by-elements .ensures vs bk st k)
 
 returns-2 : tie.Need-returns-2
 unfolding pushed
 returns-2 c = λ v bk m k.
     let a = c .before .before .before .before .before .args in
-    kept-same _ _ _ bk k _ (no-push _ (a .bytes .now) bk (pushOf v) (holds-no (a .bytes .now) _ (pushOf v) (c .enum-told .given .1) (c .before .before .push .ensures .0 v m)))
+    kept-same _ _ _ bk k _
+    (no-push _ (a .bytes .now) bk (pushOf v) (holds-no (a .bytes .now) _ (pushOf v) (c .enum-told .given .1) (c .before .before .push .ensures .0 v m)))
 
 pub push-in-spec : {M : Type 1} → statement M
 push-in-spec =

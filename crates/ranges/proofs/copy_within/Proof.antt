@@ -9,31 +9,24 @@ use Rattle.ranges.proofs.copy_within.Lts as lts
 use Rattle.ranges.proofs.move_down.Reads as move-down-reads
 use Rattle.ranges.proofs.move_up.Reads as move-up-reads
 
--- src/lib.rt:39:9
 returns : tie.Need-returns
 returns c = moved-back _ _ _ _ (c .if1 .taken) (omega arith)
 
--- src/lib.rt:42:9
 move-down-requires : tie.Need-move-down-requires
 move-down-requires c κs = search needs
 
--- src/lib.rt:43:9
 same-length : tie.Need-same-length
 same-length c = search needs
 
--- src/lib.rt:43:9
 returns-2 : tie.Need-returns-2
 returns-2 c = search needs
 
--- src/lib.rt:45:5
 move-up-requires : tie.Need-move-up-requires
 move-up-requires c κs = search needs
 
--- src/lib.rt:34:1
 same-length-2 : tie.Need-same-length-2
 same-length-2 c = search needs
 
--- src/lib.rt:34:1
 returns-3 : tie.Need-returns-3
 returns-3 c = search needs
 

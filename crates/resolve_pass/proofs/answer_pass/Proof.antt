@@ -14,7 +14,9 @@ use Rattle.resolve_pass.proofs.answer_pass.Statement.{statement}
 use Rattle.resolve_pass.proofs.answer_pass.Tie as tie
 
 abbrev Inv-loop : tie.InvT-loop
-Inv-loop plan list mode clock out₀ at c₀ i₀ out c i = ((ns : List Node) (es rs : Values) → Starts plan list c₀ ns es rs → law.Written plan list mode clock (walk mode clock ns es rs) c at i out₀ out) × (length out ≡ length out₀)
+Inv-loop plan list mode clock out₀ at c₀ i₀ out c i =
+    ((ns : List Node) (es rs : Values) → Starts plan list c₀ ns es rs → law.Written plan list mode clock (walk mode clock ns es rs) c at i out₀ out)
+    × (length out ≡ length out₀)
 
 abbrev μ-loop : tie.MeasureT-loop
 μ-loop plan list mode clock out₀ at c₀ i₀ out c i = length plan - c .at
@@ -23,16 +25,36 @@ loop-holds : tie.Need-loop-holds Inv-loop μ-loop
 loop-holds c = (λ ns es rs h. law.write-start _ _ _ _ _ _ _ ns es rs h (c .before .before .before .pre .1), refl)
 
 step-at-requires : tie.Need-step-at-requires Inv-loop μ-loop
-step-at-requires c κs = let b = c .before .before .before .before .before .before .pre .0 in let x = c .before .before .before .before .before .before .args in let w = c .before .before .loop .inv .0 (b .ns) (b .es) (b .rs) (b .starts) in reached.step-ready _ _ (x .mode) (x .clock) _ (w .reached .rest) (c .if1 .taken)
+step-at-requires c κs =
+    let b = c .before .before .before .before .before .before .pre .0 in
+    let x = c .before .before .before .before .before .before .args in
+    let w = c .before .before .loop .inv .0 (b .ns) (b .es) (b .rs) (b .starts) in
+    reached.step-ready _ _ (x .mode) (x .clock) _ (w .reached .rest) (c .if1 .taken)
 
 write-next-requires : tie.Need-write-next-requires Inv-loop μ-loop
-write-next-requires c κs = let b = c .before .before .before .before .before .before .before .before .pre .0 in let w = c .before .before .before .before .loop .inv .0 (b .ns) (b .es) (b .rs) (b .starts) in let t = law.write-ready _ _ _ _ _ _ _ _ _ _ _ (c .before .before .if1 .taken) (c .before .step-at .ensures) w in (t .step .inside, t .fits)
+write-next-requires c κs =
+    let b = c .before .before .before .before .before .before .before .before .pre .0 in
+    let w = c .before .before .before .before .loop .inv .0 (b .ns) (b .es) (b .rs) (b .starts) in
+    let t = law.write-ready _ _ _ _ _ _ _ _ _ _ _ (c .before .before .if1 .taken) (c .before .step-at .ensures) w in
+    (t .step .inside, t .fits)
 
 loop-less : tie.Need-loop-less Inv-loop μ-loop
-loop-less c = let b = c .before .before .before .before .before .before .before .before .before .before .before .before .pre .0 in let w = c .before .before .before .before .before .before .before .before .loop .inv .0 (b .ns) (b .es) (b .rs) (b .starts) in let t = law.write-ready _ _ _ _ _ _ _ _ _ _ _ (c .before .before .before .before .before .before .if1 .taken) (c .before .before .before .before .before .step-at .ensures) w in omega (arith, t .step .far (t .right), t .step .near (t .right))
+loop-less c =
+    let b = c .before .before .before .before .before .before .before .before .before .before .before .before .pre .0 in
+    let w = c .before .before .before .before .before .before .before .before .loop .inv .0 (b .ns) (b .es) (b .rs) (b .starts) in
+    let t = law.write-ready _ _ _ _ _ _ _ _ _ _ _ (c .before .before .before .before .before .before .if1 .taken)
+    (c .before .before .before .before .before .step-at .ensures) w in
+    omega (arith, t .step .far (t .right), t .step .near (t .right))
 
 loop-again : tie.Need-loop-again Inv-loop μ-loop
-loop-again c = (λ ns es rs h. law.write-step _ _ _ _ _ _ _ _ _ _ _ _ _ (c .before .before .before .before .before .before .if1 .taken) (c .before .before .before .before .before .step-at .ensures) (c .before .before .before .write-next .ensures .0) (c .before .before .before .write-next .ensures .1) (c .before .before .before .before .before .before .before .before .loop .inv .0 ns es rs h), c .before .before .out .given ∙ c .before .before .before .before .before .before .before .before .loop .inv .1)
+loop-again c = (
+  λ ns es rs h. law.write-step _ _ _ _ _ _ _ _ _ _ _ _ _ (c .before .before .before .before .before .before .if1 .taken)
+      (c .before .before .before .before .before .step-at .ensures) (c .before .before .before .write-next .ensures .0)
+      (c .before .before .before .write-next .ensures .1)
+      (c .before .before .before .before .before .before .before .before .loop .inv .0 ns es rs h),
+  c .before .before .out .given
+      ∙ c .before .before .before .before .before .before .before .before .loop .inv .1,
+)
 
 same-length : tie.Need-same-length Inv-loop μ-loop
 same-length c = c .before .before .loop .inv .1

@@ -22,7 +22,12 @@ same-length : tie.Need-same-length
 same-length c = search needs
 
 returns : tie.Need-returns
-returns c = let x = c .before .before .before .before .before .before .before .before .args in (ap (λ (b : Bytes). x .at + length b) (c .before .before .before .before .element-part .ensures .0), c .before .before .copy-to .ensures ∙ ap (λ (b : Bytes). put (now (x .out)) (x .at) b) (c .before .before .before .before .element-part .ensures .0))
+returns c =
+    let x = c .before .before .before .before .before .before .before .before .args in (
+      ap (λ (b : Bytes). x .at + length b) (c .before .before .before .before .element-part .ensures .0),
+      c .before .before .copy-to .ensures
+          ∙ ap (λ (b : Bytes). put (now (x .out)) (x .at) b) (c .before .before .before .before .element-part .ensures .0),
+    )
 
 pub copy-element-spec : {M : Type 1} → statement M
 copy-element-spec =

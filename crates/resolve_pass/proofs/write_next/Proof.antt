@@ -10,13 +10,15 @@ enum-told : tie.Need-enum-told
 enum-told c = search needs
 
 copy-element-requires : tie.Need-copy-element-requires
-copy-element-requires c κs = rw (c .before .enum-told .given .1) (rw (c .before .enum-told .given .1) at (c .before .before .before .before .before .before .pre))
+copy-element-requires c κs =
+    rw (c .before .enum-told .given .1) (rw (c .before .enum-told .given .1) at (c .before .before .before .before .before .before .pre))
 
 enum-told-2 : tie.Need-enum-told-2
 enum-told-2 c = search needs
 
 copy-element-requires-2 : tie.Need-copy-element-requires-2
-copy-element-requires-2 c κs = rw (c .before .enum-told2 .given .1) (rw (c .before .enum-told2 .given .1) at (c .before .before .before .before .before .before .pre))
+copy-element-requires-2 c κs =
+    rw (c .before .enum-told2 .given .1) (rw (c .before .enum-told2 .given .1) at (c .before .before .before .before .before .before .pre))
 
 enum-known-next : tie.Need-enum-known-next
 enum-known-next c = search needs
@@ -28,7 +30,8 @@ enum-told-3 : tie.Need-enum-told-3
 enum-told-3 c = search needs
 
 copy-element-requires-3 : tie.Need-copy-element-requires-3
-copy-element-requires-3 c κs = rw (c .before .enum-told3 .given .1) (rw (c .before .enum-told3 .given .1) at (c .before .before .before .before .before .before .pre))
+copy-element-requires-3 c κs =
+    rw (c .before .enum-told3 .given .1) (rw (c .before .enum-told3 .given .1) at (c .before .before .before .before .before .before .pre))
 
 enum-told-4 : tie.Need-enum-told-4
 enum-told-4 c = search needs
@@ -40,13 +43,17 @@ same-length : tie.Need-same-length
 same-length c = search needs
 
 returns : tie.Need-returns
-returns c = rw (c .before .before .before .before .enum-told .given .1) (rw (c .before .before .before .before .enum-told .given .1) at (c .before .before .copy-element .ensures))
+returns c =
+    rw (c .before .before .before .before .enum-told .given .1)
+    (rw (c .before .before .before .before .enum-told .given .1) at (c .before .before .copy-element .ensures))
 
 same-length-2 : tie.Need-same-length-2
 same-length-2 c = search needs
 
 returns-2 : tie.Need-returns-2
-returns-2 c = rw (c .before .before .before .before .enum-told2 .given .1) (rw (c .before .before .before .before .enum-told2 .given .1) at (c .before .before .copy-element2 .ensures))
+returns-2 c =
+    rw (c .before .before .before .before .enum-told2 .given .1)
+    (rw (c .before .before .before .before .enum-told2 .given .1) at (c .before .before .copy-element2 .ensures))
 
 same-length-3 : tie.Need-same-length-3
 same-length-3 c = search needs
@@ -58,7 +65,9 @@ same-length-4 : tie.Need-same-length-4
 same-length-4 c = search needs
 
 returns-4 : tie.Need-returns-4
-returns-4 c = rw (c .before .before .before .before .enum-told3 .given .1) (rw (c .before .before .before .before .enum-told3 .given .1) at (c .before .before .copy-element3 .ensures))
+returns-4 c =
+    rw (c .before .before .before .before .enum-told3 .given .1)
+    (rw (c .before .before .before .before .enum-told3 .given .1) at (c .before .before .copy-element3 .ensures))
 
 returns-5 : tie.Need-returns-5
 returns-5 c = rw (c .enum-told4 .given .1) (omega arith, sym (put-nil _ _))

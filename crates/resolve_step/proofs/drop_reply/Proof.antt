@@ -24,7 +24,9 @@ returns-2 : tie.Need-returns-2
 returns-2 c = λ es rs l. rw (c .enum-told .given .1) (l, refl)
 
 returns-3 : tie.Need-returns-3
-returns-3 c = λ es rs l. rw (c .before .before .before .before .before .enum-told2 .given .1) (arms.ready-go _ _ _ _ es rs l (c .before .before .if1 .left) (c .before .next .ensures .0) (c .with-reply .ensures))
+returns-3 c =
+    λ es rs l. rw (c .before .before .before .before .before .enum-told2 .given .1)
+    (arms.ready-go _ _ _ _ es rs l (c .before .before .if1 .left) (c .before .next .ensures .0) (c .with-reply .ensures))
 
 pub drop-reply-spec : {M : Type 1} → statement M
 drop-reply-spec =

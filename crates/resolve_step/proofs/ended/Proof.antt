@@ -17,7 +17,9 @@ with-reply-requires : tie.Need-with-reply-requires
 with-reply-requires c κs = search needs
 
 returns-3 : tie.Need-returns-3
-returns-3 c = λ p es rs b l. arms.ends-both p _ b _ _ _ es rs l (c .before .before .before .before .if1 .left) (c .before .before .if2 .left) (c .before .next .ensures .0) (c .with-reply .ensures)
+returns-3 c =
+    λ p es rs b l. arms.ends-both p _ b _ _ _ es rs l (c .before .before .before .before .if1 .left) (c .before .before .if2 .left)
+    (c .before .next .ensures .0) (c .with-reply .ensures)
 
 pub ended-spec : {M : Type 1} → statement M
 ended-spec = tie.close (tie.spec returns returns-2 next-requires with-reply-requires returns-3)

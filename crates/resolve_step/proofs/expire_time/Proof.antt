@@ -23,7 +23,9 @@ sooner-requires : tie.Need-sooner-requires
 sooner-requires c κs = search needs
 
 returns-3 : tie.Need-returns-3
-returns-3 c = signed.some-time _ _ _ _ _ (c .before .before .before .pttl .given .1) (record { sfits = c .before .before .known-told .given .0 .1 }) (c .before .if1 .left) (c .sooner .ensures)
+returns-3 c =
+    signed.some-time _ _ _ _ _ (c .before .before .before .pttl .given .1) (record { sfits = c .before .before .known-told .given .0 .1 })
+    (c .before .if1 .left) (c .sooner .ensures)
 
 pub expire-time-spec : {M : Type 1} → statement M
 expire-time-spec =

@@ -22,7 +22,9 @@ is-error-requires c κs = search needs
 
 returns : tie.Need-returns
 unfolding part
-returns c = λ p w t v ts b u h m. says.fetched-error p _ _ _ _ w t v (c .before .before .before .before .pre .1) (c .before .before .before .before .pre .2) m (sym (c .before .is-error .ensures .0 v m) ∙ c .if1 .taken)
+returns c =
+    λ p w t v ts b u h m. says.fetched-error p _ _ _ _ w t v (c .before .before .before .before .pre .1) (c .before .before .before .before .pre .2) m
+    (sym (c .before .is-error .ensures .0 v m) ∙ c .if1 .taken)
 
 element-requires : tie.Need-element-requires
 element-requires c κs = search needs
@@ -35,7 +37,13 @@ expire-time-requires c κs = search needs
 
 returns-2 : tie.Need-returns-2
 unfolding part
-returns-2 c = let x = c .before .before .before .before .before .before .before .args in λ p w t v ts b u h m. says.fetched-kept p _ _ _ _ _ _ w t v b u (c .before .before .before .before .before .before .before .pre .1) (c .before .before .before .before .before .before .before .pre .2) m (sym (c .before .before .before .before .is-error .ensures .0 v m) ∙ c .before .before .before .if1 .left) (c .expire-time .ensures ∙ ap (λ (i : Integer). expiryOf (x .clock) (x .m .expiry) i) (c .before .number .ensures .0 t (c .before .before .element .ensures .0 t ts h)))
+returns-2 c =
+    let x = c .before .before .before .before .before .before .before .args in
+    λ p w t v ts b u h m. says.fetched-kept p _ _ _ _ _ _ w t v b u (c .before .before .before .before .before .before .before .pre .1)
+    (c .before .before .before .before .before .before .before .pre .2) m
+    (sym (c .before .before .before .before .is-error .ensures .0 v m) ∙ c .before .before .before .if1 .left)
+    (c .expire-time .ensures ∙ ap (λ (i : Integer). expiryOf (x .clock) (x .m .expiry) i)
+    (c .before .number .ensures .0 t (c .before .before .element .ensures .0 t ts h)))
 
 pub fetched-spec : {M : Type 1} → statement M
 fetched-spec =

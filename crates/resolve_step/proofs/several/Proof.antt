@@ -24,13 +24,20 @@ enum-told : tie.Need-enum-told
 enum-told c = search needs
 
 returns-2 : tie.Need-returns-2
-returns-2 c = λ p es rs b l. arms.several-no p _ b _ _ _ es rs l (c .before .before .before .element .ensures .0) (λ v m. subst (λ (r : Elements). Holds (now (c .before .before .before .element .result)) r (arrayOf v)) (c .enum-told .given .1) (c .before .before .array .ensures .0 v m))
+returns-2 c =
+    λ p es rs b l. arms.several-no p _ b _ _ _ es rs l (c .before .before .before .element .ensures .0)
+    (λ v m. subst (λ (r : Elements). Holds (now (c .before .before .before .element .result)) r (arrayOf v)) (c .enum-told .given .1)
+    (c .before .before .array .ensures .0 v m))
 
 next-requires : tie.Need-next-requires
 next-requires c κs = search needs
 
 returns-3 : tie.Need-returns-3
-returns-3 c = λ p es rs b l. arms.several-of p _ b _ _ _ _ _ es rs l (c .before .before .before .before .before .before .if1 .left) (c .before .before .before .before .before .element .ensures .0) (λ v m. subst (λ (r : Elements). Holds (now (c .before .before .before .before .before .element .result)) r (arrayOf v)) (c .before .before .first .given .1) (c .before .before .before .before .array .ensures .0 v m)) (c .next .ensures .0)
+returns-3 c =
+    λ p es rs b l. arms.several-of p _ b _ _ _ _ _ es rs l (c .before .before .before .before .before .before .if1 .left)
+    (c .before .before .before .before .before .element .ensures .0)
+    (λ v m. subst (λ (r : Elements). Holds (now (c .before .before .before .before .before .element .result)) r (arrayOf v))
+    (c .before .before .first .given .1) (c .before .before .before .before .array .ensures .0 v m)) (c .next .ensures .0)
 
 pub several-spec : {M : Type 1} → statement M
 several-spec =

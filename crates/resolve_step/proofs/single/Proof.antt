@@ -14,13 +14,17 @@ next-requires-2 : tie.Need-next-requires-2
 next-requires-2 c κs = arms.second-reply _ _ _ (c .before .before .before .before .before .pre) (c .before .if1 .left) (c .next .ensures .0) .some
 
 fetched-requires : tie.Need-fetched-requires
-fetched-requires c κs = let q = arms.second-reply _ _ _ (c .before .before .before .before .before .before .pre) (c .before .before .if1 .left) (c .before .next .ensures .0) in (c .before .before .before .before .before .before .pre .lists .replies .inside, q .inside .order, q .inside .within)
+fetched-requires c κs =
+    let q = arms.second-reply _ _ _ (c .before .before .before .before .before .before .pre) (c .before .before .if1 .left) (c .before .next .ensures .0) in
+    (c .before .before .before .before .before .before .pre .lists .replies .inside, q .inside .order, q .inside .within)
 
 with-reply-requires : tie.Need-with-reply-requires
 with-reply-requires c κs = search needs
 
 returns-2 : tie.Need-returns-2
-returns-2 c = λ p w es rs b u l. arms.single-both p _ b _ _ _ _ _ _ _ w es rs u l (c .before .before .before .before .if1 .left) (c .before .before .before .next .ensures .0) (c .before .before .next2 .ensures .0) (c .before .fetched .ensures) (c .with-reply .ensures)
+returns-2 c =
+    λ p w es rs b u l. arms.single-both p _ b _ _ _ _ _ _ _ w es rs u l (c .before .before .before .before .if1 .left)
+    (c .before .before .before .next .ensures .0) (c .before .before .next2 .ensures .0) (c .before .fetched .ensures) (c .with-reply .ensures)
 
 pub single-spec : {M : Type 1} → statement M
 single-spec =

@@ -8,7 +8,9 @@ node-at-requires : tie.Need-node-at-requires
 node-at-requires c κs = search needs
 
 on-node-requires : tie.Need-on-node-requires
-on-node-requires c κs = let a = c .before .before .before .before .before .pre .1 in record { es = a .es; rs = a .rs; lists = record { replies = a .lists .replies; order = a .lists .order; within = a .lists .within; elements = a .lists .elements } }
+on-node-requires c κs =
+    let a = c .before .before .before .before .before .pre .1 in
+    record { es = a .es; rs = a .rs; lists = record { replies = a .lists .replies; order = a .lists .order; within = a .lists .within; elements = a .lists .elements } }
 
 returns : tie.Need-returns
 returns c = laws.step-law _ _ _ _ _ _ _ (c .before .before .before .node-at .ensures) (c .on-node .ensures)

@@ -28,17 +28,30 @@ next-requires-2 : tie.Need-next-requires-2
 next-requires-2 c κs = search needs
 
 add-fetched : tie.Need-add-fetched
-add-fetched c = let q = arms.element-inside _ _ (c .before .before .before .before .before .before .before .before .before .before .before .pre) in omega (arith, q .0, q .1)
+add-fetched c =
+    let q = arms.element-inside _ _ (c .before .before .before .before .before .before .before .before .before .before .before .pre) in
+    omega (arith, q .0, q .1)
 
 add-fetched-2 : tie.Need-add-fetched-2
-add-fetched-2 c = let q = arms.element-inside _ _ (c .before .before .before .before .before .before .before .before .before .before .before .before .pre) in omega (arith, q .0, q .1)
+add-fetched-2 c =
+    let q = arms.element-inside _ _ (c .before .before .before .before .before .before .before .before .before .before .before .before .pre) in
+    omega (arith, q .0, q .1)
 
 fetched-requires : tie.Need-fetched-requires
-fetched-requires c κs = let q = arms.element-inside _ _ (c .before .before .before .before .before .before .before .before .before .before .before .before .pre) in (c .before .before .before .before .before .before .before .before .before .before .before .before .pre .lists .replies .inside, omega (arith, q .0), q .1)
+fetched-requires c κs =
+    let q = arms.element-inside _ _ (c .before .before .before .before .before .before .before .before .before .before .before .before .pre) in (
+      c .before .before .before .before .before .before .before .before .before .before .before .before .pre .lists .replies .inside,
+      omega
+          (arith, q .0),
+      q .1,
+    )
 
 returns-3 : tie.Need-returns-3
 unfolding part
-returns-3 c = λ p w es rs b u l. arms.waiting-both p _ b _ _ _ _ _ _ w es rs u l (c .before .before .before .before .before .before .before .before .if1 .left) (c .before .before .before .before .before .before .if2 .left) (c .before .before .before .before .next .ensures .0) (c .before .before .before .next2 .ensures .0) (c .fetched .ensures)
+returns-3 c =
+    λ p w es rs b u l. arms.waiting-both p _ b _ _ _ _ _ _ w es rs u l (c .before .before .before .before .before .before .before .before .if1 .left)
+    (c .before .before .before .before .before .before .if2 .left) (c .before .before .before .before .next .ensures .0)
+    (c .before .before .before .next2 .ensures .0) (c .fetched .ensures)
 
 pub waiting-spec : {M : Type 1} → statement M
 waiting-spec =

@@ -18,7 +18,9 @@ enum-known-next : tie.Need-enum-known-next
 enum-known-next c = search needs
 
 store-one-requires : tie.Need-store-one-requires
-store-one-requires c κs = let p = rw (c .before .before .next .given .1) at (c .before .before .before .before .before .before .before .pre) in (p .0, p .1 .2, p .1 .0, p .1 .1, p .2 .0)
+store-one-requires c κs =
+    let p = rw (c .before .before .next .given .1) at (c .before .before .before .before .before .before .before .pre) in
+    (p .0, p .1 .2, p .1 .0, p .1 .1, p .2 .0)
 
 enum-told-4 : tie.Need-enum-told-4
 enum-told-4 c = search needs

@@ -37,21 +37,33 @@ part-insert-end-3 c = search needs
 
 insert-requires : tie.Need-insert-requires
 unfolding part
-insert-requires c κs = let i = law.insertable _ (c .before .before .before .before .before .before .before .pre .4) in (c .before .before .before .before .before .before .before .pre .0, i .0, i .1)
+insert-requires c κs =
+    let i = law.insertable _ (c .before .before .before .before .before .before .before .pre .4) in
+    (c .before .before .before .before .before .before .before .pre .0, i .0, i .1)
 
 same-length : tie.Need-same-length
 same-length c = search needs
 
 returns : tie.Need-returns
 unfolding part
-returns c = let x = c .before .before .before .before .before .before .before .before .before .before .before .args in (law.stores-kept _ _ (keeping (now (x .plan)) (now (x .list)) (x .m) (x .from) (x .to)) _ _ _ (c .if1 .taken) (c .before .before .before .insert .ensures), omega arith)
+returns c =
+    let x = c .before .before .before .before .before .before .before .before .before .before .before .args in (
+      law.stores-kept _ _ (keeping (now (x .plan)) (now (x .list)) (x .m) (x .from) (x .to)) _ _ _ (c .if1 .taken)
+          (c .before .before .before .insert .ensures),
+      omega arith,
+    )
 
 same-length-2 : tie.Need-same-length-2
 same-length-2 c = search needs
 
 returns-2 : tie.Need-returns-2
 unfolding part
-returns-2 c = let x = c .before .before .before .before .before .before .before .before .before .before .before .args in (law.stores-refused _ _ (keeping (now (x .plan)) (now (x .list)) (x .m) (x .from) (x .to)) _ _ _ (c .if1 .left) (c .before .before .before .insert .ensures), omega arith)
+returns-2 c =
+    let x = c .before .before .before .before .before .before .before .before .before .before .before .args in (
+      law.stores-refused _ _ (keeping (now (x .plan)) (now (x .list)) (x .m) (x .from) (x .to)) _ _ _ (c .if1 .left)
+          (c .before .before .before .insert .ensures),
+      omega arith,
+    )
 
 pub store-one-spec : {M : Type 1} → statement M
 store-one-spec =

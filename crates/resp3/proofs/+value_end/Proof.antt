@@ -47,10 +47,12 @@ value-end-enum-told : (t : ℕ) → value-end-lts.Need-enum-told (claims t) (val
 value-end-enum-told t c = search needs
 
 value-end-returns-2 : (t : ℕ) → value-end-lts.Need-returns-2 (claims t) (value-end-at t) value-end.Post value-end-Inv-loop value-end-μ-loop
-value-end-returns-2 t c = sym (paths.end-head _ _ _ _ (c .before .before .before .if1 .left) (sym (c .before .before .head-at .ensures) ∙ c .enum-told .given .1))
+value-end-returns-2 t c =
+    sym (paths.end-head _ _ _ _ (c .before .before .before .if1 .left) (sym (c .before .before .head-at .ensures) ∙ c .enum-told .given .1))
 
 value-end-loop-holds : (t : ℕ) → value-end-lts.Need-loop-holds (claims t) (value-end-at t) value-end.Post value-end-Inv-loop value-end-μ-loop
-value-end-loop-holds t c = paths.end-head _ _ _ _ (c .before .before .before .before .if1 .left) (sym (c .before .before .before .head-at .ensures) ∙ c .before .n .given .1)
+value-end-loop-holds t c =
+    paths.end-head _ _ _ _ (c .before .before .before .before .if1 .left) (sym (c .before .before .before .head-at .ensures) ∙ c .before .n .given .1)
 
 value-end-sub-value-end : (t : ℕ) → value-end-lts.Need-sub-value-end (claims t) (value-end-at t) value-end.Post value-end-Inv-loop value-end-μ-loop
 value-end-sub-value-end t c = omega arith
@@ -65,7 +67,9 @@ value-end-enum-told-2 : (t : ℕ) → value-end-lts.Need-enum-told-2 (claims t) 
 value-end-enum-told-2 t c = search needs
 
 value-end-returns-3 : (t : ℕ) → value-end-lts.Need-returns-3 (claims t) (value-end-at t) value-end.Post value-end-Inv-loop value-end-μ-loop
-value-end-returns-3 t c = sym (c .before .before .before .before .loop .inv ∙ paths.items-bad _ _ _ _ (c .before .before .before .loop-test .taken) (sym (c .before .before .value-end .ensures) ∙ c .enum-told2 .given .1))
+value-end-returns-3 t c =
+    sym (c .before .before .before .before .loop .inv ∙ paths.items-bad _ _ _ _ (c .before .before .before .loop-test .taken)
+    (sym (c .before .before .value-end .ensures) ∙ c .enum-told2 .given .1))
 
 value-end-sub-left : (t : ℕ) → value-end-lts.Need-sub-left (claims t) (value-end-at t) value-end.Post value-end-Inv-loop value-end-μ-loop
 value-end-sub-left t c = omega arith
@@ -74,7 +78,10 @@ value-end-loop-less : (t : ℕ) → value-end-lts.Need-loop-less (claims t) (val
 value-end-loop-less t c = omega arith
 
 value-end-loop-again : (t : ℕ) → value-end-lts.Need-loop-again (claims t) (value-end-at t) value-end.Post value-end-Inv-loop value-end-μ-loop
-value-end-loop-again t c = c .before .before .before .before .before .loop .inv ∙ paths.items-more _ _ _ _ _ (c .before .before .before .before .loop-test .taken) (sym (c .before .before .before .value-end .ensures) ∙ c .before .x .given .1)
+value-end-loop-again t c =
+    c .before .before .before .before .before .loop .inv
+    ∙ paths.items-more _ _ _ _ _ (c .before .before .before .before .loop-test .taken)
+    (sym (c .before .before .before .value-end .ensures) ∙ c .before .x .given .1)
 
 value-end-returns-4 : (t : ℕ) → value-end-lts.Need-returns-4 (claims t) (value-end-at t) value-end.Post value-end-Inv-loop value-end-μ-loop
 value-end-returns-4 t c = sym (c .before .loop .inv ∙ paths.items-none _ _ _ _ (omega arith))

@@ -10,7 +10,8 @@ crlf-at-requires : tie.Need-crlf-at-requires
 crlf-at-requires c κs = search needs
 
 add-t5 : tie.Need-add-t5
-add-t5 c = omega (arith, crlf-in (c .before .before .before .args .s .now) (c .before .before .before .args .at) (sym (c .before .crlf-at .ensures) ∙ c .if1 .taken))
+add-t5 c =
+    omega (arith, crlf-in (c .before .before .before .args .s .now) (c .before .before .before .args .at) (sym (c .before .crlf-at .ensures) ∙ c .if1 .taken))
 
 returns : tie.Need-returns
 returns c = sym (paths.crlf-yes _ _ (sym (c .before .crlf-at .ensures) ∙ c .if1 .taken))

@@ -12,7 +12,9 @@ use Rattle.resp3.proofs.head_at.Statement.{statement}
 use Rattle.resp3.proofs.head_at.Tie as tie
 
 -- where the shape is known, the beginning is what stands behind the first byte
-shaped : (c : tie.After-shape-of) (k : Shape) → c .shape-of .result ≡ k → headAt (c .before .before .before .before .before .args .s .now) (c .before .before .before .before .before .args .at) ≡ bodyHead k (c .before .before .before .before .before .args .s .now) (c .before .before .before .before .before .args .at + 1)
+shaped : (c : tie.After-shape-of) (k : Shape) → c .shape-of .result ≡ k
+    → headAt (c .before .before .before .before .before .args .s .now) (c .before .before .before .before .before .args .at)
+    ≡ bodyHead k (c .before .before .before .before .before .args .s .now) (c .before .before .before .before .before .args .at + 1)
 shaped c k h = paths.head-is _ _ k (sym (c .shape-of .ensures ∙ ap shapeOf (c .before .kind-of .ensures)) ∙ h)
 
 returns : tie.Need-returns
@@ -98,7 +100,9 @@ enum-told-8 c = search needs
 
 returns-2 : tie.Need-returns-2
 unfolding bodyHead
-returns-2 c = sym (shaped (c .before .before .before .before .before) _ (c .before .before .before .enum-told7 .given .1) ∙ ap (λ (x : Num). countOf x (λ n. n)) (sym (c .before .before .length-at .ensures) ∙ c .enum-told8 .given .1))
+returns-2 c =
+    sym (shaped (c .before .before .before .before .before) _ (c .before .before .before .enum-told7 .given .1)
+    ∙ ap (λ (x : Num). countOf x (λ n. n)) (sym (c .before .before .length-at .ensures) ∙ c .enum-told8 .given .1))
 
 enum-told-9 : tie.Need-enum-told-9
 enum-told-9 c = search needs
@@ -114,7 +118,9 @@ enum-told-10 c = search needs
 
 returns-3 : tie.Need-returns-3
 unfolding bodyHead
-returns-3 c = sym (shaped (c .before .before .before .before .before) _ (c .before .before .before .enum-told9 .given .1) ∙ ap (λ (x : Num). countOf x (λ n. n + n)) (sym (c .before .before .length-at2 .ensures) ∙ c .enum-told10 .given .1))
+returns-3 c =
+    sym (shaped (c .before .before .before .before .before) _ (c .before .before .before .enum-told9 .given .1)
+    ∙ ap (λ (x : Num). countOf x (λ n. n + n)) (sym (c .before .before .length-at2 .ensures) ∙ c .enum-told10 .given .1))
 
 add-t25 : tie.Need-add-t25
 add-t25 c = let k = paths.length-bounds _ _ _ _ (sym (c .before .before .before .length-at2 .ensures) ∙ c .before .n2 .given .1) in omega arith
@@ -133,7 +139,9 @@ enum-told-12 c = search needs
 
 returns-4 : tie.Need-returns-4
 unfolding bodyHead
-returns-4 c = sym (shaped (c .before .before .before .before .before) _ (c .before .before .before .enum-told11 .given .1) ∙ ap (λ (x : Num). countOf x (λ n. n + n + 1)) (sym (c .before .before .length-at3 .ensures) ∙ c .enum-told12 .given .1))
+returns-4 c =
+    sym (shaped (c .before .before .before .before .before) _ (c .before .before .before .enum-told11 .given .1)
+    ∙ ap (λ (x : Num). countOf x (λ n. n + n + 1)) (sym (c .before .before .length-at3 .ensures) ∙ c .enum-told12 .given .1))
 
 add-t27 : tie.Need-add-t27
 add-t27 c = let k = paths.length-bounds _ _ _ _ (sym (c .before .before .before .length-at3 .ensures) ∙ c .before .n3 .given .1) in omega arith
@@ -146,39 +154,57 @@ enum-told-13 c = search needs
 
 returns-5 : tie.Need-returns-5
 unfolding bodyHead
-returns-5 c = c .alone .ensures ∙ ap aloneOf (c .before .blob-end .ensures) ∙ sym (shaped (c .before .before .before .before) _ (c .before .before .enum-told .given .1))
+returns-5 c =
+    c .alone .ensures ∙ ap aloneOf (c .before .blob-end .ensures)
+    ∙ sym (shaped (c .before .before .before .before) _ (c .before .before .enum-told .given .1))
 
 returns-6 : tie.Need-returns-6
 unfolding bodyHead
-returns-6 c = c .alone2 .ensures ∙ ap aloneOf (c .before .line-end .ensures) ∙ sym (shaped (c .before .before .before .before) _ (c .before .before .enum-told2 .given .1))
+returns-6 c =
+    c .alone2 .ensures ∙ ap aloneOf (c .before .line-end .ensures)
+    ∙ sym (shaped (c .before .before .before .before) _ (c .before .before .enum-told2 .given .1))
 
 returns-7 : tie.Need-returns-7
 unfolding bodyHead
-returns-7 c = c .alone3 .ensures ∙ ap aloneOf (c .before .number-end .ensures) ∙ sym (shaped (c .before .before .before .before) _ (c .before .before .enum-told3 .given .1))
+returns-7 c =
+    c .alone3 .ensures ∙ ap aloneOf (c .before .number-end .ensures)
+    ∙ sym (shaped (c .before .before .before .before) _ (c .before .before .enum-told3 .given .1))
 
 returns-8 : tie.Need-returns-8
 unfolding bodyHead
-returns-8 c = c .alone4 .ensures ∙ ap aloneOf (c .before .crlf-end .ensures) ∙ sym (shaped (c .before .before .before .before) _ (c .before .before .enum-told4 .given .1))
+returns-8 c =
+    c .alone4 .ensures ∙ ap aloneOf (c .before .crlf-end .ensures)
+    ∙ sym (shaped (c .before .before .before .before) _ (c .before .before .enum-told4 .given .1))
 
 returns-9 : tie.Need-returns-9
 unfolding bodyHead
-returns-9 c = c .alone5 .ensures ∙ ap aloneOf (c .before .boolean-end .ensures) ∙ sym (shaped (c .before .before .before .before) _ (c .before .before .enum-told5 .given .1))
+returns-9 c =
+    c .alone5 .ensures ∙ ap aloneOf (c .before .boolean-end .ensures)
+    ∙ sym (shaped (c .before .before .before .before) _ (c .before .before .enum-told5 .given .1))
 
 returns-10 : tie.Need-returns-10
 unfolding bodyHead
-returns-10 c = c .alone6 .ensures ∙ ap aloneOf (c .before .verbatim-end .ensures) ∙ sym (shaped (c .before .before .before .before) _ (c .before .before .enum-told6 .given .1))
+returns-10 c =
+    c .alone6 .ensures ∙ ap aloneOf (c .before .verbatim-end .ensures)
+    ∙ sym (shaped (c .before .before .before .before) _ (c .before .before .enum-told6 .given .1))
 
 returns-11 : tie.Need-returns-11
 unfolding bodyHead
-returns-11 c = sym (shaped (c .before .before .before .before .before .before) _ (c .before .before .before .before .enum-told7 .given .1) ∙ ap (λ (x : Num). countOf x (λ n. n)) (sym (c .before .before .before .length-at .ensures) ∙ c .before .n .given .1))
+returns-11 c =
+    sym (shaped (c .before .before .before .before .before .before) _ (c .before .before .before .before .enum-told7 .given .1)
+    ∙ ap (λ (x : Num). countOf x (λ n. n)) (sym (c .before .before .before .length-at .ensures) ∙ c .before .n .given .1))
 
 returns-12 : tie.Need-returns-12
 unfolding bodyHead
-returns-12 c = sym (shaped (c .before .before .before .before .before .before) _ (c .before .before .before .before .enum-told9 .given .1) ∙ ap (λ (x : Num). countOf x (λ n. n + n)) (sym (c .before .before .before .length-at2 .ensures) ∙ c .before .n2 .given .1))
+returns-12 c =
+    sym (shaped (c .before .before .before .before .before .before) _ (c .before .before .before .before .enum-told9 .given .1)
+    ∙ ap (λ (x : Num). countOf x (λ n. n + n)) (sym (c .before .before .before .length-at2 .ensures) ∙ c .before .n2 .given .1))
 
 returns-13 : tie.Need-returns-13
 unfolding bodyHead
-returns-13 c = sym (shaped (c .before .before .before .before .before .before) _ (c .before .before .before .before .enum-told11 .given .1) ∙ ap (λ (x : Num). countOf x (λ n. n + n + 1)) (sym (c .before .before .before .length-at3 .ensures) ∙ c .before .n3 .given .1))
+returns-13 c =
+    sym (shaped (c .before .before .before .before .before .before) _ (c .before .before .before .before .enum-told11 .given .1)
+    ∙ ap (λ (x : Num). countOf x (λ n. n + n + 1)) (sym (c .before .before .before .length-at3 .ensures) ∙ c .before .n3 .given .1))
 
 returns-14 : tie.Need-returns-14
 unfolding bodyHead

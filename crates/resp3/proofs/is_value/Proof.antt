@@ -18,7 +18,8 @@ enum-told : tie.Need-enum-told
 enum-told c = search needs
 
 returns-2 : tie.Need-returns-2
-returns-2 c = sym (paths.value-ends _ _ (c .before .before .before .before .if1 .left) (sym (c .before .before .before .value-end .ensures) ∙ c .before .e .given .1))
+returns-2 c =
+    sym (paths.value-ends _ _ (c .before .before .before .before .if1 .left) (sym (c .before .before .before .value-end .ensures) ∙ c .before .e .given .1))
 
 returns-3 : tie.Need-returns-3
 returns-3 c = sym (paths.value-ends _ _ (c .before .before .before .if1 .left) (sym (c .before .before .value-end .ensures) ∙ c .enum-told .given .1))

@@ -3,11 +3,9 @@ use borrow.Author.Needs.{needs}
 use Rattle.resp3.proofs.length_at.Statement.{statement}
 use Rattle.resp3.proofs.length_at.Tie as tie
 
--- src/lib.rt:102:5
 read-num-requires : tie.Need-read-num-requires
 read-num-requires c κs = search needs
 
--- src/lib.rt:99:1
 returns : tie.Need-returns
 unfolding lengthAt
 returns c = c .read-num .ensures

@@ -27,10 +27,14 @@ returns-2 : tie.Need-returns-2
 returns-2 c = sym (paths.int-neg _ _ _ (c .before .before .before .if2 .taken) (sym (c .before .before .read-num .ensures) ∙ c .enum-told .given .1))
 
 returns-3 : tie.Need-returns-3
-returns-3 c = sym (paths.int-neg _ _ _ (c .before .before .before .before .before .if2 .taken) (sym (c .before .before .before .before .read-num .ensures) ∙ c .before .before .n .given .1) ∙ rw (eq-eqb _ _ (c .if3 .taken)))
+returns-3 c =
+    sym (paths.int-neg _ _ _ (c .before .before .before .before .before .if2 .taken)
+    (sym (c .before .before .before .before .read-num .ensures) ∙ c .before .before .n .given .1) ∙ rw (eq-eqb _ _ (c .if3 .taken)))
 
 returns-4 : tie.Need-returns-4
-returns-4 c = sym (paths.int-neg _ _ _ (c .before .before .before .before .before .if2 .taken) (sym (c .before .before .before .before .read-num .ensures) ∙ c .before .before .n .given .1) ∙ rw (ne-eqb _ _ (c .if3 .left)))
+returns-4 c =
+    sym (paths.int-neg _ _ _ (c .before .before .before .before .before .if2 .taken)
+    (sym (c .before .before .before .before .read-num .ensures) ∙ c .before .before .n .given .1) ∙ rw (ne-eqb _ _ (c .if3 .left)))
 
 read-num-requires-2 : tie.Need-read-num-requires-2
 read-num-requires-2 c κs = search needs
@@ -45,7 +49,8 @@ returns-5 : tie.Need-returns-5
 returns-5 c = sym (paths.int-pos _ _ _ (c .before .before .before .if2 .left) (sym (c .before .before .read-num2 .ensures) ∙ c .enum-told2 .given .1))
 
 returns-6 : tie.Need-returns-6
-returns-6 c = sym (paths.int-pos _ _ _ (c .before .before .before .before .if2 .left) (sym (c .before .before .before .read-num2 .ensures) ∙ c .before .e .given .1))
+returns-6 c =
+    sym (paths.int-pos _ _ _ (c .before .before .before .before .if2 .left) (sym (c .before .before .before .read-num2 .ensures) ∙ c .before .e .given .1))
 
 pub number-end-spec : {M : Type 1} → statement M
 number-end-spec =

@@ -26,7 +26,11 @@ add-if2 : tie.Need-add-if2
 add-if2 c = let k = paths.length-bounds _ _ _ _ (sym (c .before .before .before .before .length-at .ensures) ∙ c .before .before .n .given .1) in omega arith
 
 returns-3 : tie.Need-returns-3
-returns-3 c = sym (paths.verb-colon _ _ _ _ (sym (c .before .before .before .before .before .length-at .ensures) ∙ c .before .before .before .n .given .1) (c .before .if1 .left) (λ z. let k = getD-out (c .before .before .before .before .before .before .before .args .s .now) (c .before .before .before .n .given .0 .1 .0 + 3) (c .if2 .taken) in omega arith))
+returns-3 c =
+    sym (paths.verb-colon _ _ _ _ (sym (c .before .before .before .before .before .length-at .ensures) ∙ c .before .before .before .n .given .1)
+    (c .before .if1 .left)
+    (λ z. let k = getD-out (c .before .before .before .before .before .before .before .args .s .now) (c .before .before .before .n .given .0 .1 .0 + 3)
+    (c .if2 .taken) in omega arith))
 
 add-if3 : tie.Need-add-if3
 add-if3 c = search needs
@@ -35,16 +39,26 @@ shared-slice-read-if3 : tie.Need-shared-slice-read-if3
 shared-slice-read-if3 c = search needs
 
 returns-4 : tie.Need-returns-4
-returns-4 c = sym (paths.verb-colon _ _ _ _ (sym (c .before .before .before .before .before .before .before .length-at .ensures) ∙ c .before .before .before .before .before .n .given .1) (c .before .before .before .if1 .left) (c .if3 .taken))
+returns-4 c =
+    sym (paths.verb-colon _ _ _ _
+    (sym (c .before .before .before .before .before .before .before .length-at .ensures) ∙ c .before .before .before .before .before .n .given .1)
+    (c .before .before .before .if1 .left) (c .if3 .taken))
 
 add-crlf-end : tie.Need-add-crlf-end
-add-crlf-end c = let k = paths.length-bounds _ _ _ _ (sym (c .before .before .before .before .before .before .before .length-at .ensures) ∙ c .before .before .before .before .before .n .given .1) in omega arith
+add-crlf-end c =
+    let k = paths.length-bounds _ _ _ _
+    (sym (c .before .before .before .before .before .before .before .length-at .ensures) ∙ c .before .before .before .before .before .n .given .1) in
+    omega arith
 
 crlf-end-requires : tie.Need-crlf-end-requires
 crlf-end-requires c κs = search needs
 
 returns-5 : tie.Need-returns-5
-returns-5 c = c .crlf-end .ensures ∙ sym (paths.verb-val _ _ _ _ (sym (c .before .before .before .before .before .before .before .before .length-at .ensures) ∙ c .before .before .before .before .before .before .n .given .1) (c .before .before .before .before .if1 .left) (c .before .if3 .left))
+returns-5 c =
+    c .crlf-end .ensures ∙ sym
+    (paths.verb-val _ _ _ _
+    (sym (c .before .before .before .before .before .before .before .before .length-at .ensures)
+    ∙ c .before .before .before .before .before .before .n .given .1) (c .before .before .before .before .if1 .left) (c .before .if3 .left))
 
 pub verbatim-end-spec : {M : Type 1} → statement M
 verbatim-end-spec =

@@ -29,7 +29,9 @@ spend-requires : tie.Need-spend-requires
 spend-requires c κs = search needs
 
 dry-pass-requires : tie.Need-dry-pass-requires
-dry-pass-requires c κs = law.begins-here _ _ (c .before .before .before .before .before .before .before .before .pre .0) (c .before .before .before .before .before .before .before .before .pre .1) _ (c .before .before .before .before .start-at .ensures)
+dry-pass-requires c κs =
+    law.begins-here _ _ (c .before .before .before .before .before .before .before .before .pre .0)
+    (c .before .before .before .before .before .before .before .before .pre .1) _ (c .before .before .before .before .start-at .ensures)
 
 enum-told : tie.Need-enum-told
 enum-told c = search needs
@@ -43,23 +45,34 @@ enum-told-3 c = search needs
 write-served-requires : tie.Need-write-served-requires
 write-served-requires c κs =
     let x = c .before .before .before .before .before .before .before .before .before .before .before .before .args in
-    let b = law.begins-here _ _ (c .before .before .before .before .before .before .before .before .before .before .before .before .pre .0) (c .before .before .before .before .before .before .before .before .before .before .before .before .pre .1) _ (c .before .before .before .before .before .before .before .before .start-at .ensures) in
-    let q = c .before .before .before .before .spend .ensures ∙ ap (λ (h : ℕ). spent (wholeRoom (length (now (x .answer)))) h) (c .before .before .before .before .before .head-len .ensures) in
+    let b = law.begins-here _ _ (c .before .before .before .before .before .before .before .before .before .before .before .before .pre .0)
+    (c .before .before .before .before .before .before .before .before .before .before .before .before .pre .1) _
+    (c .before .before .before .before .before .before .before .before .start-at .ensures) in
+    let q = c .before .before .before .before .spend .ensures
+    ∙ ap (λ (h : ℕ). spent (wholeRoom (length (now (x .answer)))) h) (c .before .before .before .before .before .head-len .ensures) in
     let f = listed.fine-all _ _ _ All 0 _ _ _ _ q (c .before .before .before .dry-pass .ensures) (c .before .enum-told3 .given .1) in
     (b, listed.head-fits _ _ _ All 0 _ _ b f, f)
 
 returns : tie.Need-returns
 returns c =
     let x = c .before .before .before .before .before .before .before .before .before .before .before .args in
-    let q = c .before .before .before .spend .ensures ∙ ap (λ (h : ℕ). spent (wholeRoom (length (now (x .answer)))) h) (c .before .before .before .before .head-len .ensures) in
-    law.needs-them _ _ (c .before .before .before .before .before .before .before .before .before .before .before .pre .0) (c .before .before .before .before .before .before .before .before .before .before .before .pre .1) _ (c .before .before .before .before .before .before .before .start-at .ensures) (now (x .answer)) _ _ _ _ (c .before .before .before .before .before .before .is-transaction .ensures)
+    let q = c .before .before .before .spend .ensures ∙ ap (λ (h : ℕ). spent (wholeRoom (length (now (x .answer)))) h)
+    (c .before .before .before .before .head-len .ensures) in
+    law.needs-them _ _ (c .before .before .before .before .before .before .before .before .before .before .before .pre .0)
+    (c .before .before .before .before .before .before .before .before .before .before .before .pre .1) _
+    (c .before .before .before .before .before .before .before .start-at .ensures) (now (x .answer)) _ _ _ _
+    (c .before .before .before .before .before .before .is-transaction .ensures)
     (c .before .before .before .before .before .command-count .ensures) q (c .before .before .dry-pass .ensures) (c .enum-told .given .1)
 
 returns-2 : tie.Need-returns-2
 returns-2 c =
     let x = c .before .before .before .before .before .before .before .before .before .before .before .args in
-    let q = c .before .before .before .spend .ensures ∙ ap (λ (h : ℕ). spent (wholeRoom (length (now (x .answer)))) h) (c .before .before .before .before .head-len .ensures) in
-    law.is-short _ _ (c .before .before .before .before .before .before .before .before .before .before .before .pre .0) (c .before .before .before .before .before .before .before .before .before .before .before .pre .1) _ (c .before .before .before .before .before .before .before .start-at .ensures) (now (x .answer)) _ _ _ _ (c .before .before .before .before .before .before .is-transaction .ensures)
+    let q = c .before .before .before .spend .ensures ∙ ap (λ (h : ℕ). spent (wholeRoom (length (now (x .answer)))) h)
+    (c .before .before .before .before .head-len .ensures) in
+    law.is-short _ _ (c .before .before .before .before .before .before .before .before .before .before .before .pre .0)
+    (c .before .before .before .before .before .before .before .before .before .before .before .pre .1) _
+    (c .before .before .before .before .before .before .before .start-at .ensures) (now (x .answer)) _ _ _ _
+    (c .before .before .before .before .before .before .is-transaction .ensures)
     (c .before .before .before .before .before .command-count .ensures) q (c .before .before .dry-pass .ensures) (c .enum-told2 .given .1)
 
 same-length : tie.Need-same-length
@@ -68,9 +81,16 @@ same-length c = search needs
 returns-3 : tie.Need-returns-3
 returns-3 c =
     let x = c .before .before .before .before .before .before .before .before .before .before .before .before .before .before .before .args in
-    let q = c .before .before .before .before .before .before .before .spend .ensures ∙ ap (λ (h : ℕ). spent (wholeRoom (length (now (x .answer)))) h) (c .before .before .before .before .before .before .before .before .head-len .ensures) in
-    law.is-written _ _ (c .before .before .before .before .before .before .before .before .before .before .before .before .before .before .before .pre .0) (c .before .before .before .before .before .before .before .before .before .before .before .before .before .before .before .pre .1) _ (c .before .before .before .before .before .before .before .before .before .before .before .start-at .ensures) (now (x .answer)) _ _ _ _ (c .before .before .before .before .before .before .before .before .before .before .is-transaction .ensures)
-    (c .before .before .before .before .before .before .before .before .before .command-count .ensures) q (c .before .before .before .before .before .before .dry-pass .ensures) (c .before .before .before .before .enum-told3 .given .1) _ _ (c .before .before .write-served .ensures)
+    let q = c .before .before .before .before .before .before .before .spend .ensures
+    ∙ ap (λ (h : ℕ). spent (wholeRoom (length (now (x .answer)))) h)
+    (c .before .before .before .before .before .before .before .before .head-len .ensures) in
+    law.is-written _ _ (c .before .before .before .before .before .before .before .before .before .before .before .before .before .before .before .pre .0)
+    (c .before .before .before .before .before .before .before .before .before .before .before .before .before .before .before .pre .1) _
+    (c .before .before .before .before .before .before .before .before .before .before .before .start-at .ensures) (now (x .answer)) _ _ _ _
+    (c .before .before .before .before .before .before .before .before .before .before .is-transaction .ensures)
+    (c .before .before .before .before .before .before .before .before .before .command-count .ensures) q
+    (c .before .before .before .before .before .before .dry-pass .ensures) (c .before .before .before .before .enum-told3 .given .1) _ _
+    (c .before .before .write-served .ensures)
 
 pub served-checked-spec : {M : Type 1} → statement M
 served-checked-spec =

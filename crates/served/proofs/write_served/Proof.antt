@@ -16,7 +16,12 @@ write-result-head-requires : tie.Need-write-result-head-requires
 write-result-head-requires c κs = search needs
 
 answer-pass-requires : tie.Need-answer-pass-requires
-answer-pass-requires c κs = (c .before .before .before .before .before .before .before .before .pre .0, listed.fine-same _ _ _ All 0 _ _ _ _ (c .before .before .before .write-result-head .ensures .0) (c .before .before .answer .given) (c .before .before .before .before .before .before .before .before .pre .2))
+answer-pass-requires c κs = (
+  c .before .before .before .before .before .before .before .before .pre .0,
+  listed.fine-same _ _ _ All 0 _ _ _ _
+      (c .before .before .before .write-result-head .ensures .0) (c .before .before .answer .given)
+      (c .before .before .before .before .before .before .before .before .pre .2),
+)
 
 same-length : tie.Need-same-length
 same-length c = search needs

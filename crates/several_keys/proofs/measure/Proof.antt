@@ -40,7 +40,8 @@ loop-again : tie.Need-loop-again Inv-loop μ-loop
 loop-again c =
     let l : ℕ = c .before .before .before .before .before .loop .left in
     let e = c .before .measure-key .ensures in
-    laws.measuring-next _ _ _ _ _ _ _ _ _ l (l - 1) _ _ (c .before .before .before .next-key .result) (omega arith) (c .before .before .before .next-key .ensures) (e .1) (e .0) (c .before .before .before .before .before .loop .inv)
+    laws.measuring-next _ _ _ _ _ _ _ _ _ l (l - 1) _ _ (c .before .before .before .next-key .result) (omega arith)
+    (c .before .before .before .next-key .ensures) (e .1) (e .0) (c .before .before .before .before .before .loop .inv)
 
 returns : tie.Need-returns Inv-loop μ-loop
 returns c =

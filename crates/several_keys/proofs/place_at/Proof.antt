@@ -20,7 +20,9 @@ returns : tie.Need-returns
 returns c = λ n w. laws.node-step _ _ _ n _ (c .before .before .before .from .given .1) (c .before .node-at .ensures) w
 
 returns-2 : tie.Need-returns-2
-returns-2 c = λ n w. laws.key-step _ _ _ n (c .before .before .next-key .result) (c .before .before .before .before .from2 .given .1) (c .before .before .next-key .ensures) w
+returns-2 c =
+    λ n w. laws.key-step _ _ _ n (c .before .before .next-key .result) (c .before .before .before .before .from2 .given .1)
+    (c .before .before .next-key .ensures) w
 
 pub place-at-spec : {M : Type 1} → statement M
 place-at-spec =

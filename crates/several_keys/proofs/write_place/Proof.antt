@@ -21,7 +21,9 @@ enum-told c = search needs
 write-blob-requires : tie.Need-write-blob-requires
 write-blob-requires c κs =
     let a = c .before .before .before .before .before .before .before .args in
-    room-is _ _ _ _ (laws.piece-key (a .what) (rangeBytes (a .src .now) (a .key)) _ (c .before .before .before .before .if1 .left) (c .before .enum-told .given .1) ∙ ap blob (sym (c .before .before .before .bytes-in .ensures))) (c .before .before .before .before .before .before .before .pre .1)
+    room-is _ _ _ _ (laws.piece-key (a .what) (rangeBytes (a .src .now) (a .key)) _ (c .before .before .before .before .if1 .left)
+    (c .before .enum-told .given .1) ∙ ap blob (sym (c .before .before .before .bytes-in .ensures)))
+    (c .before .before .before .before .before .before .before .pre .1)
 
 enum-told-2 : tie.Need-enum-told-2
 enum-told-2 c = search needs
@@ -29,7 +31,9 @@ enum-told-2 c = search needs
 write-pttl-requires : tie.Need-write-pttl-requires
 write-pttl-requires c κs =
     let a = c .before .before .before .before .before .before .before .args in
-    room-is _ _ _ _ (laws.piece-pttl (a .what) (rangeBytes (a .src .now) (a .key)) _ (c .before .before .before .before .if1 .left) (c .before .enum-told2 .given .1) ∙ ap (λ (z : Bytes). packed (pttlTexts z)) (sym (c .before .before .before .bytes-in .ensures))) (c .before .before .before .before .before .before .before .pre .1)
+    room-is _ _ _ _ (laws.piece-pttl (a .what) (rangeBytes (a .src .now) (a .key)) _ (c .before .before .before .before .if1 .left)
+    (c .before .enum-told2 .given .1) ∙ ap (λ (z : Bytes). packed (pttlTexts z)) (sym (c .before .before .before .bytes-in .ensures)))
+    (c .before .before .before .before .before .before .before .pre .1)
 
 same-length : tie.Need-same-length
 same-length c = search needs
@@ -37,7 +41,10 @@ same-length c = search needs
 returns-2 : tie.Need-returns-2
 returns-2 c =
     let a = c .before .before .before .before .before .before .before .before .before .before .args in
-    wrote-is _ _ _ _ _ _ (laws.piece-key (a .what) (rangeBytes (a .src .now) (a .key)) _ (c .before .before .before .before .before .before .before .if1 .left) (c .before .before .before .before .enum-told .given .1) ∙ ap blob (sym (c .before .before .before .before .before .before .bytes-in .ensures))) (c .before .before .write-blob .ensures)
+    wrote-is _ _ _ _ _ _
+    (laws.piece-key (a .what) (rangeBytes (a .src .now) (a .key)) _ (c .before .before .before .before .before .before .before .if1 .left)
+    (c .before .before .before .before .enum-told .given .1) ∙ ap blob (sym (c .before .before .before .before .before .before .bytes-in .ensures)))
+    (c .before .before .write-blob .ensures)
 
 same-length-2 : tie.Need-same-length-2
 same-length-2 c = search needs
@@ -45,7 +52,11 @@ same-length-2 c = search needs
 returns-3 : tie.Need-returns-3
 returns-3 c =
     let a = c .before .before .before .before .before .before .before .before .before .before .args in
-    wrote-is _ _ _ _ _ _ (laws.piece-pttl (a .what) (rangeBytes (a .src .now) (a .key)) _ (c .before .before .before .before .before .before .before .if1 .left) (c .before .before .before .before .enum-told2 .given .1) ∙ ap (λ (z : Bytes). packed (pttlTexts z)) (sym (c .before .before .before .before .before .before .bytes-in .ensures))) (c .before .before .write-pttl .ensures)
+    wrote-is _ _ _ _ _ _
+    (laws.piece-pttl (a .what) (rangeBytes (a .src .now) (a .key)) _ (c .before .before .before .before .before .before .before .if1 .left)
+    (c .before .before .before .before .enum-told2 .given .1)
+    ∙ ap (λ (z : Bytes). packed (pttlTexts z)) (sym (c .before .before .before .before .before .before .bytes-in .ensures)))
+    (c .before .before .write-pttl .ensures)
 
 pub write-place-spec : {M : Type 1} → statement M
 write-place-spec =

@@ -30,8 +30,11 @@ same-length : tie.Need-same-length
 same-length c = search needs
 
 returns : tie.Need-returns
-returns c row h =
-    (c .before .before .fill-zero .ensures ∙ emptied h _ (c .before .before .before .before .read-u32 .ensures ∙ used-read h), c .before .before .before .before .before .before .all-entries .ensures row h)
+returns c row h = (
+  c .before .before .fill-zero .ensures ∙ emptied h _
+      (c .before .before .before .before .read-u32 .ensures ∙ used-read h),
+  c .before .before .before .before .before .before .all-entries .ensures row h,
+)
 
 pub clear-spec : {M : Type 1} → statement M
 clear-spec =

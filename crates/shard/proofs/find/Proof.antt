@@ -78,7 +78,8 @@ loop-again c row h =
     let t = look (c .before .before .before) row h in
     let e = c .item-len .ensures (t .front) (t .back) (t .thing) (stands h t) in
     let d = c .before .before .has-key .ensures (t .front) (t .back) (t .thing) (stands h t) in
-    passed items-count t _ (omega arith) (t .left ∙ position-next _ _ (t .thing) (t .back) (sym d ∙ c .before .if1 .left) ∙ ap (λ (n : ℕ). positionFrom n k (t .back)) (omega arith))
+    passed items-count t _ (omega arith)
+    (t .left ∙ position-next _ _ (t .thing) (t .back) (sym d ∙ c .before .if1 .left) ∙ ap (λ (n : ℕ). positionFrom n k (t .back)) (omega arith))
 
 returns-2 : tie.Need-returns-2 Inv-loop μ-loop
 unfolding positionFrom

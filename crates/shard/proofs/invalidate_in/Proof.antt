@@ -11,7 +11,8 @@ use Rattle.shard.proofs.invalidate_in.Tie as tie
 
 -- the key's item
 key : (c : tie.After-known-told) (row : Row)
-    → let a = c .before .before .before .before .before .before .before .args in Holds (a .s .now) row → KeyAt (a .s .now) (a .key .now) row (c .before .at .given .0 .0)
+    → let a = c .before .before .before .before .before .before .before .args in
+    Holds (a .s .now) row → KeyAt (a .s .now) (a .key .now) row (c .before .at .given .0 .0)
 key c row h = key-at h (sym (c .before .before .before .find .ensures row h) ∙ c .before .at .given .1)
 
 find-requires : tie.Need-find-requires
@@ -24,7 +25,9 @@ entry-count-requires : tie.Need-entry-count-requires
 entry-count-requires c κs = let h = c .before .before .before .before .before .before .before .before .pre .holds in item-at (key (c .before) _ h)
 
 remove-requires : tie.Need-remove-requires
-remove-requires c κs = let h = c .before .before .before .before .before .before .before .before .before .before .pre .holds in item-at (key (c .before .before .before) _ h)
+remove-requires c κs =
+    let h = c .before .before .before .before .before .before .before .before .before .before .pre .holds in
+    item-at (key (c .before .before .before) _ h)
 
 enum-told : tie.Need-enum-told
 enum-told c = search needs

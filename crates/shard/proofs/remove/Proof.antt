@@ -50,7 +50,8 @@ sub-write-u32-2 : tie.Need-sub-write-u32-2
 sub-write-u32-2 c =
     let w = c .before .before .before .before .before .before .before .before .before .before .before .before .before .before .before .before .pre in
     let f = fields (w .stands) in
-    let e = c .before .before .before .before .before .before .before .before .before .before .before .before .before .item-len .ensures (w .front) (w .back) (w .item) (w .stands) in
+    let e = c .before .before .before .before .before .before .before .before .before .before .before .before .before .item-len .ensures (w .front)
+    (w .back) (w .item) (w .stands) in
     omega arith
 
 cast-write-u32 : tie.Need-cast-write-u32
@@ -68,8 +69,14 @@ returns c front back it w =
     let count : ℕ = c .before .before .before .before .before .before .before .before .before .before .before .before .before .before .read-u32 .result in
     let used : ℕ = c .before .before .before .before .before .before .before .before .before .before .before .before .read-u322 .result in
     c .before .before .write-u322 .ensures
-    ∙ ap (λ (z : Bytes). put z 4 (le32 (used - size))) (c .before .before .before .before .before .before .write-u32 .ensures ∙ ap (λ (z : Bytes). put z 0 (le32 (count - 1))) (c .before .before .before .before .before .before .before .before .before .before .resize .ensures))
-    ∙ taken-out w size count used (c .before .before .before .before .before .before .before .before .before .before .before .before .before .before .before .before .item-len .ensures front back it w) (c .before .before .before .before .before .before .before .before .before .before .before .before .before .before .read-u32 .ensures ∙ count-read (w .holds)) (c .before .before .before .before .before .before .before .before .before .before .before .before .read-u322 .ensures ∙ used-read (w .holds))
+    ∙ ap (λ (z : Bytes). put z 4 (le32 (used - size)))
+    (c .before .before .before .before .before .before .write-u32 .ensures
+    ∙ ap (λ (z : Bytes). put z 0 (le32 (count - 1))) (c .before .before .before .before .before .before .before .before .before .before .resize .ensures))
+    ∙ taken-out w size count used
+    (c .before .before .before .before .before .before .before .before .before .before .before .before .before .before .before .before .item-len .ensures front back it w)
+    (c .before .before .before .before .before .before .before .before .before .before .before .before .before .before .read-u32 .ensures
+    ∙ count-read (w .holds))
+    (c .before .before .before .before .before .before .before .before .before .before .before .before .read-u322 .ensures ∙ used-read (w .holds))
 
 pub remove-spec : {M : Type 1} → statement M
 remove-spec =

@@ -80,7 +80,13 @@ look c front back it w =
     here entries-count (c .before .loop .inv front back it w) (omega arith)
 
 has-command-requires : tie.Need-has-command-requires Inv-loop μ-loop
-has-command-requires c κs = let w = c .before .before .before .before .before .before .before .pre .0 in (there-entry (w .stands) (look c _ _ _ (w .stands)), c .before .before .before .before .before .before .before .pre .1, c .before .before .before .before .key-len .ensures)
+has-command-requires c κs =
+    let w = c .before .before .before .before .before .before .before .pre .0 in (
+      there-entry (w .stands)
+          (look c _ _ _ (w .stands)),
+      c .before .before .before .before .before .before .before .pre .1,
+      c .before .before .before .before .key-len .ensures,
+    )
 
 returns : tie.Need-returns Inv-loop μ-loop
 returns c front back it w =
@@ -89,7 +95,9 @@ returns c front back it w =
     sym (t .left ∙ entry-here _ _ (t .thing) (t .back) (sym q ∙ c .if1 .taken))
 
 entry-len-requires : tie.Need-entry-len-requires Inv-loop μ-loop
-entry-len-requires c κs = let w = c .before .before .before .before .before .before .before .before .before .pre .0 in there-entry (w .stands) (look (c .before .before) _ _ _ (w .stands))
+entry-len-requires c κs =
+    let w = c .before .before .before .before .before .before .before .before .before .pre .0 in
+    there-entry (w .stands) (look (c .before .before) _ _ _ (w .stands))
 
 add-e-3 : tie.Need-add-e-3 Inv-loop μ-loop
 add-e-3 c =

@@ -18,7 +18,8 @@ use Rattle.shard_lookup.proofs.lookup_in.Tie as tie
 
 -- the key's item
 key : (c : tie.After-known-told) (row : Row)
-    → let a = c .before .before .before .before .before .before .before .before .args in Holds (a .s .now) row → KeyAt (a .s .now) (a .key .now) row (c .before .at .given .0 .0)
+    → let a = c .before .before .before .before .before .before .before .before .args in
+    Holds (a .s .now) row → KeyAt (a .s .now) (a .key .now) row (c .before .at .given .0 .0)
 key c row h = key-at h (sym (c .before .before .before .find .ensures row h) ∙ c .before .at .given .1)
 
 find-requires : tie.Need-find-requires
@@ -41,28 +42,38 @@ returns c row h =
     (leaves (length s) s _ _ row (h .is) refl f, tells-miss s _ _ _ _ f refl, tt)
 
 read-item-requires : tie.Need-read-item-requires
-read-item-requires c κs = let h = c .before .before .before .before .before .before .before .before .before .pre .0 .holds in (item-at (key (c .before) _ h), c .before .before .before .before .before .before .before .before .before .pre .1)
+read-item-requires c κs =
+    let h = c .before .before .before .before .before .before .before .before .before .pre .0 .holds in
+    (item-at (key (c .before) _ h), c .before .before .before .before .before .before .before .before .before .pre .1)
 
 enum-told-2 : tie.Need-enum-told-2
 enum-told-2 c = search needs
 
 entry-count-requires : tie.Need-entry-count-requires
-entry-count-requires c κs = let h = c .before .before .before .before .before .before .before .before .before .before .before .before .before .pre .0 .holds in item-at (key (c .before .before .before .before .before) _ h)
+entry-count-requires c κs =
+    let h = c .before .before .before .before .before .before .before .before .before .before .before .before .before .pre .0 .holds in
+    item-at (key (c .before .before .before .before .before) _ h)
 
 remove-requires : tie.Need-remove-requires
-remove-requires c κs = let h = c .before .before .before .before .before .before .before .before .before .before .before .before .before .before .before .pre .0 .holds in item-at (key (c .before .before .before .before .before .before .before) _ h)
+remove-requires c κs =
+    let h = c .before .before .before .before .before .before .before .before .before .before .before .before .before .before .before .pre .0 .holds in
+    item-at (key (c .before .before .before .before .before .before .before) _ h)
 
 enum-told-3 : tie.Need-enum-told-3
 enum-told-3 c = search needs
 
 touch-requires : tie.Need-touch-requires
-touch-requires c κs = let h = c .before .before .before .before .before .before .before .before .before .before .before .before .before .pre .0 .holds in item-at (key (c .before .before .before .before .before) _ h)
+touch-requires c κs =
+    let h = c .before .before .before .before .before .before .before .before .before .before .before .before .before .pre .0 .holds in
+    item-at (key (c .before .before .before .before .before) _ h)
 
 enum-known-skip : tie.Need-enum-known-skip
 enum-known-skip c = search needs
 
 touch-requires-2 : tie.Need-touch-requires-2
-touch-requires-2 c κs = let h = c .before .before .before .before .before .before .before .before .before .before .before .before .before .before .pre .0 .holds in item-at (key (c .before .before .before .before .before .before) _ h)
+touch-requires-2 c κs =
+    let h = c .before .before .before .before .before .before .before .before .before .before .before .before .before .before .pre .0 .holds in
+    item-at (key (c .before .before .before .before .before .before) _ h)
 
 -- the value lies within the bytes
 value-ends : (c : tie.After-known-told2)
@@ -93,11 +104,13 @@ returns-2 : tie.Need-returns-2
 returns-2 c row h =
     let g = key (c .before .before .before .before .before .before .before .before .before .before) _ h in
     let a = c .before .before .before .before .before .before .before .before .before .before .before .before .before .before .before .before .before .before .args in
-    let v = subst (λ (r : Reading). Reads (a .clock) (a .epoch) (keyBytes (a .source .now) (a .command)) (g .item) r) (c .before .before .before .before .before .before .enum-told2 .given .1)
+    let v = subst (λ (r : Reading). Reads (a .clock) (a .epoch) (keyBytes (a .source .now) (a .command)) (g .item) r)
+    (c .before .before .before .before .before .before .enum-told2 .given .1)
     (c .before .before .before .before .before .before .before .before .read-item .ensures (g .place .front) (g .place .back) (g .item) (g .stands)) in
     let f = finds-stale _ _ _ _ row (g .item) (g .is) v in
     let n = c .before .before .before .before .entry-count .ensures (g .place .front) (g .place .back) (g .item) (g .stands) in (
-      leaves (length (a .s .now)) _ _ _ _ (c .before .before .remove .ensures (g .place .front) (g .place .back) (g .item) (g .stands)) (sym (g .place .gone)) f,
+      leaves (length (a .s .now)) _ _ _ _ (c .before .before .remove .ensures (g .place .front) (g .place .back) (g .item) (g .stands))
+          (sym (g .place .gone)) f,
       tells-miss (a .s .now) _ _ _ _ f n,
       tt,
     )
@@ -109,7 +122,8 @@ returns-3 : tie.Need-returns-3
 returns-3 c row h =
     let g = key (c .before .before .before .before .before .before .before .before) _ h in
     let a = c .before .before .before .before .before .before .before .before .before .before .before .before .before .before .before .before .args in
-    let v = subst (λ (r : Reading). Reads (a .clock) (a .epoch) (keyBytes (a .source .now) (a .command)) (g .item) r) (c .before .before .before .before .enum-told3 .given .1)
+    let v = subst (λ (r : Reading). Reads (a .clock) (a .epoch) (keyBytes (a .source .now) (a .command)) (g .item) r)
+    (c .before .before .before .before .enum-told3 .given .1)
     (c .before .before .before .before .before .before .read-item .ensures (g .place .front) (g .place .back) (g .item) (g .stands)) in
     let f = finds-bare _ _ _ _ row (g .item) (g .is) (v .0) (v .1) in
     let moved = ap (λ (z : Row). g .item ∷ z) (sym (g .place .gone)) in (
@@ -126,7 +140,8 @@ unfolding rowBytes
 returns-4 c row h =
     let g = key (c .before .before .before .before .before .before .before .before .before) _ h in
     let a = c .before .before .before .before .before .before .before .before .before .before .before .before .before .before .before .before .before .args in
-    let v = subst (λ (r : Reading). Reads (a .clock) (a .epoch) (keyBytes (a .source .now) (a .command)) (g .item) r) (c .before .before .before .before .before .skip .given .1)
+    let v = subst (λ (r : Reading). Reads (a .clock) (a .epoch) (keyBytes (a .source .now) (a .command)) (g .item) r)
+    (c .before .before .before .before .before .skip .given .1)
     (c .before .before .before .before .before .before .before .read-item .ensures (g .place .front) (g .place .back) (g .item) (g .stands)) in
     let f = finds-value _ _ _ _ row (g .item) (g .is) _ (v .0) (v .2) in
     let t = c .before .before .touch2 .ensures (g .place .front) (g .place .back) (g .item) (g .stands) in

@@ -17,7 +17,8 @@ use Rattle.shard_lookup.proofs.peek_in.Tie as tie
 
 -- the key's item
 key : (c : tie.After-known-told) (row : Row)
-    → let a = c .before .before .before .before .before .before .before .args in Holds (a .s .now) row → KeyAt (a .s .now) (a .key .now) row (c .before .at .given .0 .0)
+    → let a = c .before .before .before .before .before .before .before .args in
+    Holds (a .s .now) row → KeyAt (a .s .now) (a .key .now) row (c .before .at .given .0 .0)
 key c row h = key-at h (sym (c .before .before .before .find .ensures row h) ∙ c .before .at .given .1)
 
 find-requires : tie.Need-find-requires
@@ -35,13 +36,17 @@ returns c row h =
     tells-miss (c .before .before .before .before .before .before .args .s .now) _ _ _ _ (finds-none _ _ _ _ row n) refl
 
 read-item-requires : tie.Need-read-item-requires
-read-item-requires c κs = let h = c .before .before .before .before .before .before .before .pre .0 .holds in (item-at (key c _ h), c .before .before .before .before .before .before .before .pre .1)
+read-item-requires c κs =
+    let h = c .before .before .before .before .before .before .before .pre .0 .holds in
+    (item-at (key c _ h), c .before .before .before .before .before .before .before .pre .1)
 
 enum-told-2 : tie.Need-enum-told-2
 enum-told-2 c = search needs
 
 entry-count-requires : tie.Need-entry-count-requires
-entry-count-requires c κs = let h = c .before .before .before .before .before .before .before .before .before .before .pre .0 .holds in item-at (key (c .before .before .before) _ h)
+entry-count-requires c κs =
+    let h = c .before .before .before .before .before .before .before .before .before .before .pre .0 .holds in
+    item-at (key (c .before .before .before) _ h)
 
 enum-told-3 : tie.Need-enum-told-3
 enum-told-3 c = search needs

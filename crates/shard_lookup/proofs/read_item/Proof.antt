@@ -33,8 +33,12 @@ enum-known-e c = search needs
 
 -- the command key's entry
 entry : (c : tie.After-known-told)
-    → let a = c .before .before .before .before .before .before .before .before .before .before .args in ValueAt (a .s .now) (a .at) (c .before .before .before .before .before .before .before .before .before .before .pre .0 .item) (keyBytes (a .source .now) (a .command)) (c .before .e .given .0 .0)
-entry c = let w = c .before .before .before .before .before .before .before .before .before .before .pre .0 .stands in value-at w (sym (c .before .before .before .find-entry .ensures _ _ _ w) ∙ c .before .e .given .1)
+    → let a = c .before .before .before .before .before .before .before .before .before .before .args in
+    ValueAt (a .s .now) (a .at) (c .before .before .before .before .before .before .before .before .before .before .pre .0 .item)
+    (keyBytes (a .source .now) (a .command)) (c .before .e .given .0 .0)
+entry c =
+    let w = c .before .before .before .before .before .before .before .before .before .before .pre .0 .stands in
+    value-at w (sym (c .before .before .before .find-entry .ensures _ _ _ w) ∙ c .before .e .given .1)
 
 sub-skip : tie.Need-sub-skip
 sub-skip c = let y = entry c in omega arith
@@ -74,8 +78,11 @@ returns-3 c front back it w =
 returns-4 : tie.Need-returns-4
 returns-4 c front back it w =
     let n = c .before .before .before .before .before .before .epoch-of .ensures front back it w in
-    let x = c .before .before .before .before .expiry-of .ensures front back it w in
-    (in-time _ _ it (omega arith) (omega arith), no-value _ _ (it .entries) (sym (c .before .before .find-entry .ensures front back it w) ∙ c .enum-told .given .1))
+    let x = c .before .before .before .before .expiry-of .ensures front back it w in (
+      in-time _ _ it (omega arith) (omega arith),
+      no-value _ _ (it .entries)
+          (sym (c .before .before .find-entry .ensures front back it w) ∙ c .enum-told .given .1),
+    )
 
 pub read-item-spec : {M : Type 1} → statement M
 read-item-spec =

@@ -42,7 +42,8 @@ loop-holds c row h =
     record { standing = t; next-is = omega arith }
 
 -- the item that a turn comes to
-look : (c : tie.In-loop Inv-loop μ-loop) (row : Row) → let s = c .before .before .before .before .before .args .s .now in Holds s row → Standing s row (c .before .loop .next)
+look : (c : tie.In-loop Inv-loop μ-loop) (row : Row) → let s = c .before .before .before .before .before .args .s .now in
+    Holds s row → Standing s row (c .before .loop .next)
 look c row h =
     let t = c .before .loop .inv row h in
     let u = used-read h in

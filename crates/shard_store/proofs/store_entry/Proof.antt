@@ -80,7 +80,8 @@ sub-bytes c = search needs
 sub-bytes-2 : tie.Need-sub-bytes-2
 sub-bytes-2 c =
     let a = c .before .before .before .before .before .before .before .before .before .before .args in
-    let z = sizes (c .before .before .before .before .before .before .before .before .before .before .pre .0 .replaces) (a .command .now) (a .value .now) (a .expiry) in
+    let z = sizes (c .before .before .before .before .before .before .before .before .before .before .pre .0 .replaces) (a .command .now) (a .value .now)
+    (a .expiry) in
     omega arith
 
 add-bytes : tie.Need-add-bytes
@@ -89,7 +90,8 @@ add-bytes c = search needs
 cast-t14 : tie.Need-cast-t14
 cast-t14 c =
     let a = c .before .before .before .before .before .before .before .before .before .before .args in
-    let z = sizes (c .before .before .before .before .before .before .before .before .before .before .pre .0 .replaces) (a .command .now) (a .value .now) (a .expiry) in
+    let z = sizes (c .before .before .before .before .before .before .before .before .before .before .pre .0 .replaces) (a .command .now) (a .value .now)
+    (a .expiry) in
     omega arith
 
 add-t25 : tie.Need-add-t25
@@ -110,7 +112,8 @@ add-set-entry-2 c = search needs
 set-entry-requires : tie.Need-set-entry-requires
 set-entry-requires c κs =
     let a = c .before .before .before .before .before .before .before .before .before .before .before .args in
-    let z = sizes (c .before .before .before .before .before .before .before .before .before .before .before .pre .0 .replaces) (a .command .now) (a .value .now) (a .expiry) in
+    let z = sizes (c .before .before .before .before .before .before .before .before .before .before .before .pre .0 .replaces) (a .command .now)
+    (a .value .now) (a .expiry) in
     (record { ordered = omega arith; inside = omega arith; ends = omega arith; room = omega arith; short = omega arith }, omega arith)
 
 same-length-2 : tie.Need-same-length-2

@@ -28,7 +28,8 @@ epoch-of-requires c κs =
 store-update-requires : tie.Need-store-update-requires
 store-update-requires c κs =
     let h = c .before .before .before .before .before .before .before .before .before .before .before .before .before .pre .0 .holds in
-    let g = key-at h (sym (c .before .before .before .before .before .before .before .find .ensures _ h) ∙ c .before .before .before .before .before .at .given .1) in
+    let g = key-at h (sym (c .before .before .before .before .before .before .before .find .ensures _ h)
+    ∙ c .before .before .before .before .before .at .given .1) in
     (item-at g, c .before .before .before .before .before .before .before .before .before .before .before .before .before .pre .1 .command, c .before .before .before .before .before .before .before .before .before .before .before .before .before .pre .1 .value)
 
 same-length : tie.Need-same-length
@@ -37,17 +38,20 @@ same-length c = search needs
 returns : tie.Need-returns
 returns c row h =
     let a = c .before .before .before .before .before .before .before .before .before .before .before .before .before .before .before .before .args in
-    let g = key-at h (sym (c .before .before .before .before .before .before .before .before .before .before .find .ensures row h) ∙ c .before .before .before .before .before .before .before .before .at .given .1) in
+    let g = key-at h (sym (c .before .before .before .before .before .before .before .before .before .before .find .ensures row h)
+    ∙ c .before .before .before .before .before .before .before .before .at .given .1) in
     let q = c .before .before .before .before .before .epoch-of .ensures (g .place .front) (g .place .back) (g .item) (g .stands) in
     let p = c .before .before .store-update .ensures (g .place .front) (g .place .back) (g .item) (g .stands) in
     same-rows (length (a .s .now))
-    (case-update (a .keys) (a .key .now) (a .command .now) (a .value .now) (a .expiry) (a .epoch) row (g .item) (g .place) (g .is) (sym (c .before .before .before .before .if1 .taken) ∙ q))
+    (case-update (a .keys) (a .key .now) (a .command .now) (a .value .now) (a .expiry) (a .epoch) row (g .item) (g .place) (g .is)
+    (sym (c .before .before .before .before .if1 .taken) ∙ q))
     (sym (g .place .splits)) p
 
 store-instead-requires : tie.Need-store-instead-requires
 store-instead-requires c κs =
     let h = c .before .before .before .before .before .before .before .before .before .before .before .before .before .pre .0 .holds in
-    let g = key-at h (sym (c .before .before .before .before .before .before .before .find .ensures _ h) ∙ c .before .before .before .before .before .at .given .1) in
+    let g = key-at h (sym (c .before .before .before .before .before .before .before .find .ensures _ h)
+    ∙ c .before .before .before .before .before .at .given .1) in
     (item-at g, c .before .before .before .before .before .before .before .before .before .before .before .before .before .pre .1)
 
 enum-told : tie.Need-enum-told
@@ -68,10 +72,13 @@ same-length-2 c = search needs
 returns-2 : tie.Need-returns-2
 returns-2 c row h =
     let a = c .before .before .before .before .before .before .before .before .before .before .before .before .before .before .before .args in
-    let f = no-item 16 _ row (sym (c .before .before .before .before .before .before .before .before .before .find .ensures row h) ∙ c .before .before .before .before .before .before .before .enum-told .given .1) in
+    let f = no-item 16 _ row
+    (sym (c .before .before .before .before .before .before .before .before .before .find .ensures row h)
+    ∙ c .before .before .before .before .before .before .before .enum-told .given .1) in
     let n = count-read h in
     same-rows (length (a .s .now))
-    (case-new (a .keys) (a .key .now) (a .command .now) (a .value .now) (a .expiry) (a .epoch) row f (omega arith)) refl (c .before .before .store-front .ensures row h)
+    (case-new (a .keys) (a .key .now) (a .command .now) (a .value .now) (a .expiry) (a .epoch) row f (omega arith)) refl
+    (c .before .before .store-front .ensures row h)
 
 oldest-requires : tie.Need-oldest-requires
 oldest-requires c κs =
@@ -86,8 +93,17 @@ store-instead-requires-2 c κs =
     let w = c .before .before .before .before .before .before .before .before .before .before .before .before .before .before .pre .0 in
     let one = c .before .before .before .before .before .before .before .before .before .before .before .before .before .before .pre .2 in
     let n = count-read (w .holds) in
-    let l = last-of (w .row) (omega arith) in
-    (record { front = _; back = _; item = _; stands = last-stands (w .holds) l (c .before .oldest .ensures (w .row) (w .holds)) }, c .before .before .before .before .before .before .before .before .before .before .before .before .before .before .pre .1)
+    let l = last-of (w .row) (omega arith) in (
+      record {
+        front = _;
+        back = _;
+        item = _;
+        stands = last-stands (w .holds) l
+            (c .before .oldest .ensures (w .row)
+            (w .holds));
+      },
+      c .before .before .before .before .before .before .before .before .before .before .before .before .before .before .pre .1,
+    )
 
 same-length-3 : tie.Need-same-length-3
 same-length-3 c = search needs
@@ -95,11 +111,13 @@ same-length-3 c = search needs
 returns-3 : tie.Need-returns-3
 returns-3 c row h =
     let a = c .before .before .before .before .before .before .before .before .before .before .before .before .before .before .before .before .args in
-    let g = key-at h (sym (c .before .before .before .before .before .before .before .before .before .before .find .ensures row h) ∙ c .before .before .before .before .before .before .before .before .at .given .1) in
+    let g = key-at h (sym (c .before .before .before .before .before .before .before .before .before .before .find .ensures row h)
+    ∙ c .before .before .before .before .before .before .before .before .at .given .1) in
     let q = c .before .before .before .before .before .epoch-of .ensures (g .place .front) (g .place .back) (g .item) (g .stands) in
     let p = c .before .before .store-instead .ensures (g .place .front) (g .place .back) (g .item) (g .stands) in
     same-rows (length (a .s .now))
-    (case-replace (a .keys) (a .key .now) (a .command .now) (a .value .now) (a .expiry) (a .epoch) row (g .item) (g .place) (g .is) (λ e. c .before .before .before .before .if1 .left (q ∙ sym e)))
+    (case-replace (a .keys) (a .key .now) (a .command .now) (a .value .now) (a .expiry) (a .epoch) row (g .item) (g .place) (g .is)
+    (λ e. c .before .before .before .before .if1 .left (q ∙ sym e)))
     (sym (g .place .splits)) p
 
 same-length-4 : tie.Need-same-length-4
@@ -108,11 +126,14 @@ same-length-4 c = search needs
 returns-4 : tie.Need-returns-4
 returns-4 c row h =
     let a = c .before .before .before .before .before .before .before .before .before .before .before .before .before .before .before .before .before .args in
-    let f = no-item 16 _ row (sym (c .before .before .before .before .before .before .before .before .before .before .before .find .ensures row h) ∙ c .before .before .before .before .before .before .before .before .before .enum-told .given .1) in
+    let f = no-item 16 _ row
+    (sym (c .before .before .before .before .before .before .before .before .before .before .before .find .ensures row h)
+    ∙ c .before .before .before .before .before .before .before .before .before .enum-told .given .1) in
     let one = c .before .before .before .before .before .before .before .before .before .before .before .before .before .before .before .before .before .pre .2 in
     let n = count-read h in
     let l = last-of row (omega arith) in
-    let p = c .before .before .store-instead2 .ensures (withoutOldest row) [] (l .item) (last-stands h l (c .before .before .before .before .oldest .ensures row h)) in
+    let p = c .before .before .store-instead2 .ensures (withoutOldest row) [] (l .item)
+    (last-stands h l (c .before .before .before .before .oldest .ensures row h)) in
     same-rows (length (a .s .now))
     (ap (λ (z : Row). newItem (a .key .now) (a .command .now) (a .value .now) (a .expiry) (a .epoch) ∷ z) (append-nil (withoutOldest row))
     ∙ case-evict (a .keys) (a .key .now) (a .command .now) (a .value .now) (a .expiry) (a .epoch) row f (omega arith))

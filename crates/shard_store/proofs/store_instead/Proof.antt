@@ -105,8 +105,10 @@ returns-2 c front back it w =
     let l = length-shard (length (a .s .now)) (front ++ back) (omega arith) in
     let q = c .before .before .before .before .before .before .remove .ensures front back it w in
     let m₁ = ap length q ∙ l in
-    let p = c .before .before .push-front .ensures (front ++ back) (record { is = q ∙ ap (λ (z : ℕ). encShard z (front ++ back)) (sym m₁); ends = omega arith; items = omega arith; bytes = omega arith }) in
-    kept (a .s .now) _ _ _ (p ∙ ap (λ (z : ℕ). encShard z (newItem (a .key .now) (a .command .now) (a .value .now) (a .expiry) (a .epoch) ∷ (front ++ back))) m₁) (omega arith)
+    let p = c .before .before .push-front .ensures (front ++ back)
+    (record { is = q ∙ ap (λ (z : ℕ). encShard z (front ++ back)) (sym m₁); ends = omega arith; items = omega arith; bytes = omega arith }) in
+    kept (a .s .now) _ _ _
+    (p ∙ ap (λ (z : ℕ). encShard z (newItem (a .key .now) (a .command .now) (a .value .now) (a .expiry) (a .epoch) ∷ (front ++ back))) m₁) (omega arith)
 
 pub store-instead-spec : {M : Type 1} → statement M
 store-instead-spec =

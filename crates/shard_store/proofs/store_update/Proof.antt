@@ -22,13 +22,15 @@ enum-known-from c = search needs
 entry-len-requires : tie.Need-entry-len-requires
 entry-len-requires c κs =
     let w = c .before .before .before .before .before .before .before .before .before .pre .0 .stands in
-    let g = set-in w (c .before .before .before .before .before .before .before .before .before .args .command .now) (sym (c .before .before .before .before .find-entry .ensures _ _ _ w) ∙ c .before .before .from .given .1) in
+    let g = set-in w (c .before .before .before .before .before .before .before .before .before .args .command .now)
+    (sym (c .before .before .before .before .find-entry .ensures _ _ _ w) ∙ c .before .before .from .given .1) in
     record { entry = g .entry; stands = entry-of w g }
 
 add-to : tie.Need-add-to
 add-to c =
     let w = c .before .before .before .before .before .before .before .before .before .before .pre .0 .stands in
-    let g = set-in w (c .before .before .before .before .before .before .before .before .before .before .args .command .now) (sym (c .before .before .before .before .before .find-entry .ensures _ _ _ w) ∙ c .before .before .before .from .given .1) in
+    let g = set-in w (c .before .before .before .before .before .before .before .before .before .before .args .command .now)
+    (sym (c .before .before .before .before .before .find-entry .ensures _ _ _ w) ∙ c .before .before .before .from .given .1) in
     let e = c .entry-len .ensures (g .entry) (entry-of w g) in
     let f = entry-fields (entry-of w g) in
     omega arith
@@ -36,7 +38,8 @@ add-to c =
 store-entry-requires : tie.Need-store-entry-requires
 store-entry-requires c κs =
     let w = c .before .before .before .before .before .before .before .before .before .before .before .pre .0 .stands in
-    let g = set-in w (c .before .before .before .before .before .before .before .before .before .before .before .args .command .now) (sym (c .before .before .before .before .before .before .find-entry .ensures _ _ _ w) ∙ c .before .before .before .before .from .given .1) in
+    let g = set-in w (c .before .before .before .before .before .before .before .before .before .before .before .args .command .now)
+    (sym (c .before .before .before .before .before .before .find-entry .ensures _ _ _ w) ∙ c .before .before .before .before .from .given .1) in
     let e = c .before .entry-len .ensures (g .entry) (entry-of w g) in (
       record { front = _; back = _; item = _; ef = g .front; em = g .entry ∷ []; eb = g .back; replaces = at-replaces w g _ (omega arith) },
       c .before .before .before .before .before .before .before .before .before .before .before .pre .1,
@@ -59,8 +62,20 @@ add-end c =
 store-entry-requires-2 : tie.Need-store-entry-requires-2
 store-entry-requires-2 c κs =
     let w = c .before .before .before .before .before .before .before .before .before .before .pre .0 .stands in
-    let e = c .before .item-len .ensures _ _ _ w in
-    (record { front = _; back = _; item = _; ef = _; em = []; eb = []; replaces = end-replaces w _ (omega arith) }, c .before .before .before .before .before .before .before .before .before .before .pre .1, c .before .before .before .before .before .before .before .before .before .before .pre .2)
+    let e = c .before .item-len .ensures _ _ _ w in (
+      record {
+        front = _;
+        back = _;
+        item = _;
+        ef = _;
+        em = [];
+        eb = [];
+        replaces = end-replaces w _
+            (omega arith);
+      },
+      c .before .before .before .before .before .before .before .before .before .before .pre .1,
+      c .before .before .before .before .before .before .before .before .before .before .pre .2,
+    )
 
 same-length : tie.Need-same-length
 same-length c = search needs
@@ -68,7 +83,9 @@ same-length c = search needs
 returns : tie.Need-returns
 returns c front back it w =
     let a = c .before .before .before .before .before .before .before .before .before .before .before .before .before .before .args in
-    let g = set-in w (a .command .now) (sym (c .before .before .before .before .before .before .before .before .before .find-entry .ensures front back it w) ∙ c .before .before .before .before .before .before .before .from .given .1) in
+    let g = set-in w (a .command .now)
+    (sym (c .before .before .before .before .before .before .before .before .before .find-entry .ensures front back it w)
+    ∙ c .before .before .before .before .before .before .before .from .given .1) in
     let e = c .before .before .before .before .entry-len .ensures (g .entry) (entry-of w g) in
     let p = c .before .before .store-entry .ensures front back it (g .front) (g .entry ∷ []) (g .back) (at-replaces w g _ (omega arith)) in
     same-rows (length (a .s .now)) (entries-same front back it (a .expiry) (sym (g .set (a .value .now)))) refl p
@@ -79,7 +96,9 @@ same-length-2 c = search needs
 returns-2 : tie.Need-returns-2
 returns-2 c front back it w =
     let a = c .before .before .before .before .before .before .before .before .before .before .before .before .before .args in
-    let n = none-in w (a .command .now) (sym (c .before .before .before .before .before .before .before .before .find-entry .ensures front back it w) ∙ c .before .before .before .before .before .before .enum-told .given .1) in
+    let n = none-in w (a .command .now)
+    (sym (c .before .before .before .before .before .before .before .before .find-entry .ensures front back it w)
+    ∙ c .before .before .before .before .before .before .enum-told .given .1) in
     let e = c .before .before .before .before .item-len .ensures front back it w in
     let p = c .before .before .store-entry2 .ensures front back it (it .entries) [] [] (end-replaces w _ (omega arith)) in
     same-rows (length (a .s .now)) (entries-same front back it (a .expiry) (sym (set-new (a .command .now) (a .value .now) (it .entries) n))) refl p

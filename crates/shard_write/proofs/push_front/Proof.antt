@@ -21,8 +21,11 @@ same-length c = search needs
 returns : tie.Need-returns
 returns c row w =
     let a = c .before .before .before .before .before .before .before .before .before .before .before .before .before .before .before .before .args in
-    written _ _ (c .before .before .write-u322 .ensures) (written _ _ (c .before .before .before .before .before .before .write-u32 .ensures) (c .before .before .before .before .before .before .before .before .before .before .splice-item .ensures))
-    ∙ pushed-front (a .s .now) (a .key .now) (a .command .now) (a .value .now) (a .expiry) (a .epoch) (a .end) (a .count) (a .used) row (c .before .before .before .before .before .before .before .before .before .before .before .before .before .before .before .before .pre) w
+    written _ _ (c .before .before .write-u322 .ensures)
+    (written _ _ (c .before .before .before .before .before .before .write-u32 .ensures)
+    (c .before .before .before .before .before .before .before .before .before .before .splice-item .ensures))
+    ∙ pushed-front (a .s .now) (a .key .now) (a .command .now) (a .value .now) (a .expiry) (a .epoch) (a .end) (a .count) (a .used) row
+    (c .before .before .before .before .before .before .before .before .before .before .before .before .before .before .before .before .pre) w
 
 pub push-front-spec : {M : Type 1} → statement M
 push-front-spec =

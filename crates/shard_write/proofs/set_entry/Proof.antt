@@ -37,8 +37,12 @@ returns : tie.Need-returns
 returns c front back k e x ef em eb w u =
     let a = c .before .before .before .before .before .before .before .before .before .before .before .before .before .before .before .before .before .before .before .before .before .before .before .args in
     written _ _ (c .before .before .write-u323 .ensures)
-    (written _ _ (c .before .before .before .before .before .before .write-u322 .ensures) (written _ _ (c .before .before .before .before .before .before .before .before .before .before .write-u64 .ensures) (written _ _ (c .before .before .before .before .before .before .before .before .before .before .before .before .before .before .write-u32 .ensures) (c .before .before .before .before .before .before .before .before .before .before .before .before .before .before .before .before .before .before .splice-entry .ensures))))
-    ∙ entry-set (a .s .now) (a .command .now) (a .value .now) (a .at) (a .from) (a .to) (a .end) (a .fields) front back k e x ef em eb (c .before .before .before .before .before .before .before .before .before .before .before .before .before .before .before .before .before .before .before .before .before .before .before .pre .0) w u
+    (written _ _ (c .before .before .before .before .before .before .write-u322 .ensures)
+    (written _ _ (c .before .before .before .before .before .before .before .before .before .before .write-u64 .ensures)
+    (written _ _ (c .before .before .before .before .before .before .before .before .before .before .before .before .before .before .write-u32 .ensures)
+    (c .before .before .before .before .before .before .before .before .before .before .before .before .before .before .before .before .before .before .splice-entry .ensures))))
+    ∙ entry-set (a .s .now) (a .command .now) (a .value .now) (a .at) (a .from) (a .to) (a .end) (a .fields) front back k e x ef em eb
+    (c .before .before .before .before .before .before .before .before .before .before .before .before .before .before .before .before .before .before .before .before .before .before .before .pre .0) w u
 
 pub set-entry-spec : {M : Type 1} → statement M
 set-entry-spec =

@@ -25,7 +25,8 @@ returns : tie.Need-returns
 returns c =
     let a = c .before .before .before .before .before .before .before .before .before .before .before .args in
     written _ _ (c .before .before .write-entry .ensures) (c .before .before .before .before .before .before .resize .ensures)
-    ∙ entry-spliced (a .s .now) (a .command .now) (a .value .now) (a .from) (a .to) (a .end) (c .before .before .before .before .before .before .before .before .before .before .before .pre)
+    ∙ entry-spliced (a .s .now) (a .command .now) (a .value .now) (a .from) (a .to) (a .end)
+    (c .before .before .before .before .before .before .before .before .before .before .before .pre)
 
 pub splice-entry-spec : {M : Type 1} → statement M
 splice-entry-spec =

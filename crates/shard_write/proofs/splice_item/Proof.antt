@@ -31,7 +31,8 @@ returns : tie.Need-returns
 returns c =
     let a = c .before .before .before .before .before .before .before .before .before .before .before .before .args in
     written _ _ (c .before .before .write-item .ensures) (c .before .before .before .before .before .before .resize .ensures)
-    ∙ item-spliced (a .s .now) (a .key .now) (a .command .now) (a .value .now) (a .expiry) (a .epoch) (a .from) (a .to) (a .end) (c .before .before .before .before .before .before .before .before .before .before .before .before .pre)
+    ∙ item-spliced (a .s .now) (a .key .now) (a .command .now) (a .value .now) (a .expiry) (a .epoch) (a .from) (a .to) (a .end)
+    (c .before .before .before .before .before .before .before .before .before .before .before .before .pre)
 
 pub splice-item-spec : {M : Type 1} → statement M
 splice-item-spec =

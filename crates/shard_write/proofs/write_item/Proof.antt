@@ -42,7 +42,9 @@ same-length c = search needs
 returns : tie.Need-returns
 returns c =
     let a = c .before .before .before .before .before .before .before .before .before .before .before .before .before .before .before .before .args in
-    written _ _ (c .before .before .write-entry .ensures) (written _ _ (c .before .before .before .before .before .before .copy-to .ensures) (c .before .before .before .before .before .before .before .before .before .before .write-head .ensures))
+    written _ _ (c .before .before .write-entry .ensures)
+    (written _ _ (c .before .before .before .before .before .before .copy-to .ensures)
+    (c .before .before .before .before .before .before .before .before .before .before .write-head .ensures))
     ∙ item-written (a .s .now) (a .key .now) (a .command .now) (a .value .now) (a .at) (a .expiry) (a .epoch) (omega arith)
 
 pub write-item-spec : {M : Type 1} → statement M

@@ -8,33 +8,31 @@ use Rattle.sharded_lru.proofs.admit.Lts as lts
 use Rattle.arena_check.proofs.is_image.Reads as is-image-reads
 use Rattle.config.proofs.check_config.Reads as check-config-reads
 
--- src/lib.rt:35:11
 check-config-requires : tie.Need-check-config-requires
 check-config-requires c κs = search needs
 
--- src/lib.rt:36:35
 enum-told : tie.Need-enum-told
 enum-told c = search needs
 
--- src/lib.rt:37:29
 enum-known-g : tie.Need-enum-known-g
 enum-known-g c = search needs
 
--- src/lib.rt:38:16
 is-image-requires : tie.Need-is-image-requires
-is-image-requires c κs = bounds _ _ _ (c .before .before .before .before .before .args .arena .now) _ (c .before .before .before .check-config .ensures) _ (c .before .g .given .1)
+is-image-requires c κs =
+    bounds _ _ _ (c .before .before .before .before .before .args .arena .now) _ (c .before .before .before .check-config .ensures) _ (c .before .g .given .1)
 
--- src/lib.rt:39:17
 returns : tie.Need-returns
-returns c = an-image _ _ _ _ _ (c .before .before .before .before .before .check-config .ensures) _ (c .before .before .before .g .given .1) _ (c .before .is-image .ensures) (c .if1 .taken)
+returns c =
+    an-image _ _ _ _ _ (c .before .before .before .before .before .check-config .ensures) _ (c .before .before .before .g .given .1) _
+    (c .before .is-image .ensures) (c .if1 .taken)
 
--- src/lib.rt:32:1
 returns-2 : tie.Need-returns-2
 returns-2 c = bad-config _ _ _ _ _ (c .before .before .check-config .ensures) (c .enum-told .given .1)
 
--- src/lib.rt:32:1
 returns-3 : tie.Need-returns-3
-returns-3 c = no-image _ _ _ _ _ (c .before .before .before .before .before .check-config .ensures) _ (c .before .before .before .g .given .1) _ (c .before .is-image .ensures) (c .if1 .left)
+returns-3 c =
+    no-image _ _ _ _ _ (c .before .before .before .before .before .check-config .ensures) _ (c .before .before .before .g .given .1) _
+    (c .before .is-image .ensures) (c .if1 .left)
 
 pub admit-spec : {M : Type 1} → statement M
 admit-spec =

@@ -11,46 +11,46 @@ use Rattle.shard_lookup.proofs.lookup_in.Reads as lookup-in-reads
 use Rattle.sharded_lru.proofs.placed.Reads as placed-reads
 use Rattle.sharded_lru.proofs.shard_start.Reads as shard-start-reads
 
--- src/lib.rt:84:9
 shard-start-requires : tie.Need-shard-start-requires
 shard-start-requires c κs = shards-below _ _ (c .before .before .before .pre .0)
 
--- src/lib.rt:85:15
 add-end : tie.Need-add-end
 add-end c = let l = key-below _ _ (c .before .before .before .before .before .pre .0) _ _ (c .before .shard-start .ensures) in omega arith
 
--- src/lib.rt:86:41
 sub-lookup-in : tie.Need-sub-lookup-in
 sub-lookup-in c = search needs
 
--- src/lib.rt:86:41
 part-lookup-in-start : tie.Need-part-lookup-in-start
 part-lookup-in-start c = search needs
 
--- src/lib.rt:86:41
 part-lookup-in-end : tie.Need-part-lookup-in-end
 part-lookup-in-end c = key-ends _ _ (c .before .before .before .before .before .pre .0) _ _ (c .before .shard-start .ensures)
 
--- src/lib.rt:86:9
 lookup-in-requires : tie.Need-lookup-in-requires
-lookup-in-requires c κs = (key-shard _ _ (c .before .before .before .before .before .before .pre .0) _ _ (c .before .before .shard-start .ensures), c .before .before .before .before .before .before .pre .1)
+lookup-in-requires c κs = (
+  key-shard _ _ (c .before .before .before .before .before .before .pre .0) _ _
+      (c .before .before .shard-start .ensures),
+  c .before .before .before .before .before .before .pre .1,
+)
 
--- src/lib.rt:87:5
 placed-requires : tie.Need-placed-requires
 placed-requires c κs =
     let w = c .before .before .before .before .before .before .before .before .before .pre .0 in
-    let e = c .before .before .before .before .before .shard-start .ensures in
-    (key-below _ _ w _ _ e, told-back _ _ _ (w .lent) _ _ _ _ _ e _ (c .before .before .lookup-in .result) (c .before .before .lookup-in .ensures _ (key-holds _ _ _ (w .lent) _ _ e)))
+    let e = c .before .before .before .before .before .shard-start .ensures in (
+      key-below _ _ w _ _ e,
+      told-back _ _ _ (w .lent) _ _ _ _ _ e _ (c .before .before .lookup-in .result)
+          (c .before .before .lookup-in .ensures _ (key-holds _ _ _ (w .lent) _ _ e)),
+    )
 
--- src/lib.rt:80:1
 same-length : tie.Need-same-length
 same-length c = search needs
 
--- src/lib.rt:80:1
 returns : tie.Need-returns
 returns c rows w =
     let e = c .before .before .before .before .before .before .shard-start .ensures in
-    rw (c .placed .ensures) (lookup-back _ _ rows w _ _ _ _ _ e _ (c .before .before .before .lookup-in .result) (c .before .before .before .lookup-in .ensures _ (key-holds _ _ rows w _ _ e)))
+    rw (c .placed .ensures)
+    (lookup-back _ _ rows w _ _ _ _ _ e _ (c .before .before .before .lookup-in .result)
+    (c .before .before .before .lookup-in .ensures _ (key-holds _ _ rows w _ _ e)))
 
 pub get-spec : {M : Type 1} → statement M
 get-spec =

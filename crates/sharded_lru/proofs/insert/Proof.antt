@@ -10,40 +10,40 @@ use Rattle.sharded_lru.proofs.insert.Lts as lts
 use Rattle.shard_store.proofs.store_in.Reads as store-in-reads
 use Rattle.sharded_lru.proofs.shard_start.Reads as shard-start-reads
 
--- src/lib.rt:29:9
 shard-start-requires : tie.Need-shard-start-requires
 shard-start-requires c κs = shards-below _ _ (c .before .before .before .before .pre .0)
 
--- src/lib.rt:30:14
 add-to : tie.Need-add-to
 add-to c = let l = key-below _ _ (c .before .before .before .before .before .before .pre .0) _ _ (c .before .shard-start .ensures) in omega arith
 
--- src/lib.rt:31:27
 sub-store-in : tie.Need-sub-store-in
 sub-store-in c = search needs
 
--- src/lib.rt:31:27
 part-store-in-start : tie.Need-part-store-in-start
 part-store-in-start c = search needs
 
--- src/lib.rt:31:27
 part-store-in-end : tie.Need-part-store-in-end
 part-store-in-end c = key-ends _ _ (c .before .before .before .before .before .before .pre .0) _ _ (c .before .shard-start .ensures)
 
--- src/lib.rt:31:5
 store-in-requires : tie.Need-store-in-requires
-store-in-requires c κs = (key-shard _ _ (c .before .before .before .before .before .before .before .pre .0) _ _ (c .before .before .shard-start .ensures), c .before .before .before .before .before .before .before .pre .1, c .before .before .before .before .before .before .before .pre .0 .lent .keyed)
+store-in-requires c κs = (
+  key-shard _ _ (c .before .before .before .before .before .before .before .pre .0) _ _
+      (c .before .before .shard-start .ensures),
+  c .before .before .before .before .before .before .before .pre .1,
+  c .before .before .before .before .before .before .before .pre .0 .lent .keyed,
+)
 
--- src/lib.rt:25:1
 same-length : tie.Need-same-length
 same-length c = search needs
 
--- src/lib.rt:25:1
 returns : tie.Need-returns
 returns c rows w =
     let e = c .before .before .before .before .before .shard-start .ensures in
     let o = c .before .before .before .before .before .before .before .before .before .before .pre in
-    store-back _ _ rows w _ _ _ _ _ _ e (o .1) (o .2) (c .before .before .before .before .before .before .before .before .before .before .fits .expiry .fits) (c .before .before .before .before .before .before .before .before .before .before .fits .epoch .fits) _ _ (c .before .before .store-in .ensures _ (key-holds _ _ rows w _ _ e))
+    store-back _ _ rows w _ _ _ _ _ _ e (o .1) (o .2)
+    (c .before .before .before .before .before .before .before .before .before .before .fits .expiry .fits)
+    (c .before .before .before .before .before .before .before .before .before .before .fits .epoch .fits) _ _
+    (c .before .before .store-in .ensures _ (key-holds _ _ rows w _ _ e))
 
 pub insert-spec : {M : Type 1} → statement M
 insert-spec =

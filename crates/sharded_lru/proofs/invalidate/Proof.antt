@@ -12,35 +12,27 @@ use Rattle.sharded_lru.proofs.invalidate.Lts as lts
 use Rattle.shard.proofs.invalidate_in.Reads as invalidate-in-reads
 use Rattle.sharded_lru.proofs.shard_start.Reads as shard-start-reads
 
--- src/lib.rt:39:9
 shard-start-requires : tie.Need-shard-start-requires
 shard-start-requires c κs = shards-below _ _ (c .before .before .pre)
 
--- src/lib.rt:40:14
 add-end : tie.Need-add-end
 add-end c = let l = key-below _ _ (c .before .before .before .before .pre) _ _ (c .before .shard-start .ensures) in omega arith
 
--- src/lib.rt:41:26
 sub-invalidate-in : tie.Need-sub-invalidate-in
 sub-invalidate-in c = search needs
 
--- src/lib.rt:41:26
 part-invalidate-in-start : tie.Need-part-invalidate-in-start
 part-invalidate-in-start c = search needs
 
--- src/lib.rt:41:26
 part-invalidate-in-end : tie.Need-part-invalidate-in-end
 part-invalidate-in-end c = key-ends _ _ (c .before .before .before .before .pre) _ _ (c .before .shard-start .ensures)
 
--- src/lib.rt:41:5
 invalidate-in-requires : tie.Need-invalidate-in-requires
 invalidate-in-requires c κs = key-shard _ _ (c .before .before .before .before .before .pre) _ _ (c .before .before .shard-start .ensures)
 
--- src/lib.rt:35:1
 same-length : tie.Need-same-length
 same-length c = search needs
 
--- src/lib.rt:35:1
 returns : tie.Need-returns
 unfolding effectOn setupOf keyOf
 returns c rows w =

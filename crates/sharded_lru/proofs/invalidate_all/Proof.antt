@@ -22,11 +22,9 @@ Inv-loop arena₀ g i₀ n₀ arena i n =
 abbrev μ-loop : tie.MeasureT-loop
 μ-loop arena₀ g i₀ n₀ arena i n = g .shards - i
 
--- src/lib.rt:51:5
 loop-holds : tie.Need-loop-holds Inv-loop μ-loop
 loop-holds c = (omega arith, λ rows w. clear-first _ _ rows w, refl)
 
--- src/lib.rt:52:20
 mul-from : tie.Need-mul-from Inv-loop μ-loop
 mul-from c =
     let r = c .before .before .before .before .before .pre in
@@ -36,7 +34,6 @@ mul-from c =
     let e = l .inv .2 in
     omega arith
 
--- src/lib.rt:53:18
 add-to : tie.Need-add-to Inv-loop μ-loop
 add-to c =
     let r = c .before .before .before .before .before .before .pre in
@@ -46,11 +43,9 @@ add-to c =
     let e = l .inv .2 in
     omega arith
 
--- src/lib.rt:54:30
 sub-clear : tie.Need-sub-clear Inv-loop μ-loop
 sub-clear c = omega arith
 
--- src/lib.rt:54:30
 part-clear-start : tie.Need-part-clear-start Inv-loop μ-loop
 part-clear-start c =
     let r = c .before .before .before .before .before .before .pre in
@@ -60,7 +55,6 @@ part-clear-start c =
     let e = l .inv .2 in
     omega arith
 
--- src/lib.rt:54:30
 part-clear-end : tie.Need-part-clear-end Inv-loop μ-loop
 part-clear-end c =
     let r = c .before .before .before .before .before .before .pre in
@@ -70,36 +64,32 @@ part-clear-end c =
     let e = l .inv .2 in
     omega arith
 
--- src/lib.rt:54:17
 clear-requires : tie.Need-clear-requires Inv-loop μ-loop
 clear-requires c κs =
     let r = c .before .before .before .before .before .before .before .pre in
     let l = c .before .before .before .before .before .loop in
     record { row = _; holds = lent-holds _ _ _ (l .inv .1 (r .rows) (r .lent) .0) (l .i) _ (c .before .before .before .if1 .taken) refl }
 
--- src/lib.rt:54:13
 add-n : tie.Need-add-n Inv-loop μ-loop
 add-n c =
     let r = c .before .before .before .before .before .before .before .before .before .before .pre in
     let l = c .before .before .before .before .before .before .before .before .loop in
     let i = l .inv .1 (r .rows) (r .lent) in
-    let d = c .before .before .clear .ensures _ (lent-holds _ _ _ (i .0) (l .i) _ (c .before .before .before .before .before .before .if1 .taken) refl) .1 ∙ ap rowEntries (cleared-here (l .i) (r .rows)) in
+    let d = c .before .before .clear .ensures _ (lent-holds _ _ _ (i .0) (l .i) _ (c .before .before .before .before .before .before .if1 .taken) refl) .1
+    ∙ ap rowEntries (cleared-here (l .i) (r .rows)) in
     let e = i .1 in
     let b = clear-bound _ _ (r .rows) (r .lent) (l .i) (c .before .before .before .before .before .before .if1 .taken) in
     omega arith
 
--- src/lib.rt:55:9
 add-i : tie.Need-add-i Inv-loop μ-loop
 add-i c =
     let a = c .before .before .before .before .before .before .before .before .before .before .pre .lent .few in
     let h = c .before .before .before .before .before .before .if1 .taken in
     omega arith
 
--- src/lib.rt:51:5
 loop-less : tie.Need-loop-less Inv-loop μ-loop
 loop-less c = let h = c .before .before .before .before .before .before .if1 .taken in omega arith
 
--- src/lib.rt:51:5
 loop-again : tie.Need-loop-again Inv-loop μ-loop
 loop-again c =
     let l = c .before .before .before .before .before .before .before .before .loop in
@@ -112,11 +102,9 @@ loop-again c =
       c .before .arena .given .1 ∙ l .inv .2,
     )
 
--- src/lib.rt:45:1
 same-length : tie.Need-same-length Inv-loop μ-loop
 same-length c = search needs
 
--- src/lib.rt:45:1
 returns : tie.Need-returns Inv-loop μ-loop
 returns c rows w =
     let l = c .before .before .loop in

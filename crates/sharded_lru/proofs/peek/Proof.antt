@@ -12,44 +12,45 @@ use Rattle.shard_lookup.proofs.peek_in.Reads as peek-in-reads
 use Rattle.sharded_lru.proofs.placed.Reads as placed-reads
 use Rattle.sharded_lru.proofs.shard_start.Reads as shard-start-reads
 
--- src/lib.rt:73:9
 shard-start-requires : tie.Need-shard-start-requires
 shard-start-requires c κs = shards-below _ _ (c .before .before .before .pre .0)
 
--- src/lib.rt:74:15
 add-end : tie.Need-add-end
 add-end c = let l = key-below _ _ (c .before .before .before .before .before .pre .0) _ _ (c .before .shard-start .ensures) in omega arith
 
--- src/lib.rt:75:39
 sub-peek-in : tie.Need-sub-peek-in
 sub-peek-in c = search needs
 
--- src/lib.rt:75:39
 part-peek-in-start : tie.Need-part-peek-in-start
 part-peek-in-start c = search needs
 
--- src/lib.rt:75:39
 part-peek-in-end : tie.Need-part-peek-in-end
 part-peek-in-end c = key-ends _ _ (c .before .before .before .before .before .pre .0) _ _ (c .before .shard-start .ensures)
 
--- src/lib.rt:75:9
 peek-in-requires : tie.Need-peek-in-requires
-peek-in-requires c κs = (key-shard _ _ (c .before .before .before .before .before .before .pre .0) _ _ (c .before .before .shard-start .ensures), c .before .before .before .before .before .before .pre .1)
+peek-in-requires c κs = (
+  key-shard _ _ (c .before .before .before .before .before .before .pre .0) _ _
+      (c .before .before .shard-start .ensures),
+  c .before .before .before .before .before .before .pre .1,
+)
 
--- src/lib.rt:76:5
 placed-requires : tie.Need-placed-requires
 placed-requires c κs =
     let w = c .before .before .before .before .before .before .before .pre .0 in
     let e = c .before .before .before .shard-start .ensures in
-    let a = c .before .before .before .before .before .before .before .args in
-    (key-below _ _ w _ _ e, told-here _ _ _ (w .lent) _ (keyBytes (a .source .now) (a .command)) (a .clock) (a .epoch) _ e (c .peek-in .result) (c .peek-in .ensures _ (key-holds _ _ _ (w .lent) _ _ e)))
+    let a = c .before .before .before .before .before .before .before .args in (
+      key-below _ _ w _ _ e,
+      told-here _ _ _ (w .lent) _ (keyBytes (a .source .now) (a .command)) (a .clock) (a .epoch) _ e (c .peek-in .result)
+          (c .peek-in .ensures _ (key-holds _ _ _ (w .lent) _ _ e)),
+    )
 
--- src/lib.rt:69:1
 returns : tie.Need-returns
 returns c rows w =
     let e = c .before .before .before .before .shard-start .ensures in
     let a = c .before .before .before .before .before .before .before .before .args in
-    rw (c .placed .ensures) (peek-told _ _ rows w _ (keyBytes (a .source .now) (a .command)) (a .clock) (a .epoch) _ e (c .before .peek-in .result) (c .before .peek-in .ensures _ (key-holds _ _ rows w _ _ e)))
+    rw (c .placed .ensures)
+    (peek-told _ _ rows w _ (keyBytes (a .source .now) (a .command)) (a .clock) (a .epoch) _ e (c .before .peek-in .result)
+    (c .before .peek-in .ensures _ (key-holds _ _ rows w _ _ e)))
 
 pub peek-spec : {M : Type 1} → statement M
 peek-spec =

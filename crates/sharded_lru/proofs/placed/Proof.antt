@@ -8,11 +8,9 @@ use Rattle.sharded_lru.proofs.placed.Tie as tie
 use Rattle.sharded_lru.proofs.placed.Reads as reads
 use Rattle.sharded_lru.proofs.placed.Lts as lts
 
--- src/lib.rt:60:23
 enum-known-found : tie.Need-enum-known-found
 enum-known-found c = search needs
 
--- src/lib.rt:61:19
 add-t8 : tie.Need-add-t8
 add-t8 c =
     let w = subst (Within (c .before .before .before .args .size)) (c .before .found .given .1) (c .before .before .before .pre .1) in
@@ -20,22 +18,18 @@ add-t8 c =
     let b = w .1 in
     omega arith
 
--- src/lib.rt:62:17
 add-t9 : tie.Need-add-t9
 add-t9 c =
     let w = subst (Within (c .before .before .before .args .size)) (c .before .found .given .1) (c .before .before .before .pre .1) in
     let b = w .1 in
     omega arith
 
--- src/lib.rt:64:22
 enum-known-found-2 : tie.Need-enum-known-found-2
 enum-known-found-2 c = search needs
 
--- src/lib.rt:55:1
 returns : tie.Need-returns
 returns c = sym (ap (placedAt (c .before .before .before .args .start)) (c .before .found .given .1))
 
--- src/lib.rt:55:1
 returns-2 : tie.Need-returns-2
 returns-2 c = sym (ap (placedAt (c .before .before .before .args .start)) (c .before .found2 .given .1))
 

@@ -10,11 +10,9 @@ use Rattle.sharded_lru.proofs.shard_start.Reads as reads
 use Rattle.sharded_lru.proofs.shard_start.Lts as lts
 use Rattle.siphash.proofs.shard_of.Reads as shard-of-reads
 
--- src/lib.rt:21:5
 shard-of-requires : tie.Need-shard-of-requires
 shard-of-requires c κs = search needs
 
--- src/lib.rt:21:5
 mul-result : tie.Need-mul-result
 mul-result c =
     let a = c .before .before .before .args in
@@ -22,7 +20,6 @@ mul-result c =
     let l = start-below (a .key .now) (a .g .shards) (a .g .bytes) (omega arith) (omega arith) in
     omega arith
 
--- src/lib.rt:17:1
 returns : tie.Need-returns
 returns c = ap (λ (n : ℕ). n * c .before .before .before .args .g .bytes) (c .before .shard-of .ensures)
 

@@ -34,7 +34,9 @@ returns-2 c rows next w =
     let a = c .before .before .before .before .before .before .before .before .before .args in
     let r = c .before .before .before .invalidate .ensures rows w in
     rw (c .more .ensures)
-    (invalidation-left _ _ _ rows _ next (c .before .before .before .invalidate .kept .0) (r .0) (sym (c .before .before .before .before .before .before .too-long .ensures) ∙ c .before .before .before .before .before .if1 .left) refl (a .counts) (c .before .before .before .invalidate .result) refl (r .1))
+    (invalidation-left _ _ _ rows _ next (c .before .before .before .invalidate .kept .0) (r .0)
+    (sym (c .before .before .before .before .before .before .too-long .ensures) ∙ c .before .before .before .before .before .if1 .left) refl (a .counts)
+    (c .before .before .before .invalidate .result) refl (r .1))
 
 pub invalidate-admitted-spec : {M : Type 1} → statement M
 invalidate-admitted-spec =

@@ -37,7 +37,8 @@ same-length-2 c = search needs
 
 returns-2 : tie.Need-returns-2
 returns-2 c next =
-    let w = admits _ _ _ _ _ (sym (c .before .before .before .before .before .before .before .admit .ensures) ∙ c .before .before .before .before .before .g .given .1) in
+    let w = admits _ _ _ _ _
+    (sym (c .before .before .before .before .before .before .before .admit .ensures) ∙ c .before .before .before .before .before .g .given .1) in
     rw (is-admitted _ _ _ _ _ _ _ next w, place-admitted _ _ _ _ _ _ _ _ _ _ next w) (c .before .before .lookup-admitted .ensures _ next (w .lent))
 
 pub lookup-spec : {M : Type 1} → statement M

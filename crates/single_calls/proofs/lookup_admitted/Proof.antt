@@ -36,7 +36,9 @@ returns-2 c rows next w =
     let a = c .before .before .before .before .before .before .before .before .before .before .args in
     let r = whole-get _ _ rows _ (a .command .now) _ _ (c .before .before .before .get .result) (c .before .before .before .get .ensures rows w) in
     rw (c .counted .ensures)
-    (lookup-left _ _ _ rows _ next (c .before .before .before .get .kept .0) (r .0) (sym (c .before .before .before .before .before .before .too-long .ensures) ∙ c .before .before .before .before .before .if1 .left) refl (a .counts) _ _ (c .before .before .before .get .result) (r .1) (r .2))
+    (lookup-left _ _ _ rows _ next (c .before .before .before .get .kept .0) (r .0)
+    (sym (c .before .before .before .before .before .before .too-long .ensures) ∙ c .before .before .before .before .before .if1 .left) refl
+    (a .counts) _ _ (c .before .before .before .get .result) (r .1) (r .2))
 
 pub lookup-admitted-spec : {M : Type 1} → statement M
 lookup-admitted-spec =

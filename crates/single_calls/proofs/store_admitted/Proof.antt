@@ -28,11 +28,18 @@ is-value-requires c κs = search needs
 returns-2 : tie.Need-returns-2
 unfolding overlong wrongBytes
 returns-2 c rows lent next w =
-    left-refused _ _ refl _ _ _ (bad-bytes _ rows _ _ (sym (c .before .before .before .too-long .ensures) ∙ c .before .before .if1 .left) (ap not (sym (c .before .is-value .ensures)) ∙ c .if2 .taken))
+    left-refused _ _ refl _ _ _
+    (bad-bytes _ rows _ _ (sym (c .before .before .before .too-long .ensures) ∙ c .before .before .if1 .left)
+    (ap not (sym (c .before .is-value .ensures)) ∙ c .if2 .taken))
 
 insert-requires : tie.Need-insert-requires
-insert-requires c κs =
-    (c .before .before .before .before .before .before .before .before .before .pre, not-overlong _ _ _ (sym (c .before .before .before .before .too-long .ensures) ∙ c .before .before .before .if1 .left), sym (c .before .before .is-value .ensures) ∙ not-false _ (c .before .if2 .left))
+insert-requires c κs = (
+  c .before .before .before .before .before .before .before .before .before .pre,
+  not-overlong _ _ _
+      (sym (c .before .before .before .before .too-long .ensures) ∙ c .before .before .before .if1 .left),
+  sym (c .before .before .is-value .ensures)
+      ∙ not-false _ (c .before .if2 .left),
+)
 
 same-length : tie.Need-same-length
 same-length c = search needs
@@ -41,7 +48,11 @@ returns-3 : tie.Need-returns-3
 unfolding overlong wrongBytes
 returns-3 c rows lent next w =
     let r = c .before .before .before .insert .ensures rows w in
-    store-left _ _ _ rows _ next (c .before .before .before .insert .kept .0) (r .0) (sym (c .before .before .before .before .before .before .before .before .too-long .ensures) ∙ c .before .before .before .before .before .before .before .if1 .left) (ap not (sym (c .before .before .before .before .before .before .is-value .ensures)) ∙ c .before .before .before .before .before .if2 .left) lent _ _ (c .if3 .taken) (r .1)
+    store-left _ _ _ rows _ next (c .before .before .before .insert .kept .0) (r .0)
+    (sym (c .before .before .before .before .before .before .before .before .too-long .ensures)
+    ∙ c .before .before .before .before .before .before .before .if1 .left)
+    (ap not (sym (c .before .before .before .before .before .before .is-value .ensures)) ∙ c .before .before .before .before .before .if2 .left) lent _ _
+    (c .if3 .taken) (r .1)
 
 same-length-2 : tie.Need-same-length-2
 same-length-2 c = search needs
@@ -50,7 +61,11 @@ returns-4 : tie.Need-returns-4
 unfolding overlong wrongBytes
 returns-4 c rows lent next w =
     let r = c .before .before .before .insert .ensures rows w in
-    store-left _ _ _ rows _ next (c .before .before .before .insert .kept .0) (r .0) (sym (c .before .before .before .before .before .before .before .before .too-long .ensures) ∙ c .before .before .before .before .before .before .before .if1 .left) (ap not (sym (c .before .before .before .before .before .before .is-value .ensures)) ∙ c .before .before .before .before .before .if2 .left) lent _ _ (c .if3 .left) (r .1)
+    store-left _ _ _ rows _ next (c .before .before .before .insert .kept .0) (r .0)
+    (sym (c .before .before .before .before .before .before .before .before .too-long .ensures)
+    ∙ c .before .before .before .before .before .before .before .if1 .left)
+    (ap not (sym (c .before .before .before .before .before .before .is-value .ensures)) ∙ c .before .before .before .before .before .if2 .left) lent _ _
+    (c .if3 .left) (r .1)
 
 pub store-admitted-spec : {M : Type 1} → statement M
 store-admitted-spec =

@@ -28,13 +28,19 @@ shared-slice-read-lower : tie.Need-shared-slice-read-lower Inv-loop μ-loop
 shared-slice-read-lower c = omega arith
 
 lower-requires : tie.Need-lower-requires Inv-loop μ-loop
-lower-requires c κs = tail-below _ _ _ _ (λ j. c .before .before .before .shared-slice-known .given j .fits) (c .before .before .loop .inv .0) (c .before .before .loop .inv .2)
+lower-requires c κs =
+    tail-below _ _ _ _ (λ j. c .before .before .before .shared-slice-known .given j .fits) (c .before .before .loop .inv .0) (c .before .before .loop .inv .2)
 
 loop-less : tie.Need-loop-less Inv-loop μ-loop
 loop-less c = omega arith
 
 loop-again : tie.Need-loop-again Inv-loop μ-loop
-loop-again c = (omega arith, omega arith, c .lower .ensures ∙ tail-down _ _ _ _ (c .before .before .loop-test .taken) (omega arith) (c .before .before .before .loop .inv .2))
+loop-again c = (
+  omega arith,
+  omega arith,
+  c .lower .ensures ∙ tail-down _ _ _ _ (c .before .before .loop-test .taken) (omega arith)
+      (c .before .before .before .loop .inv .2),
+)
 
 mul-result : tie.Need-mul-result Inv-loop μ-loop
 mul-result c = omega arith

@@ -33,7 +33,10 @@ enum-known-sent c = search needs
 
 array-share-prefix-out : tie.Need-array-share-prefix-out
 array-share-prefix-out c =
-    let h = front-within _ _ _ (c .before .sent .given .1) (c .before .before .before .before .send-bytes .ensures .1) in let k = c .before .before .before .out2 .given in let l = c .before .before .before .before .before .out .given in omega arith
+    let h = front-within _ _ _ (c .before .sent .given .1) (c .before .before .before .before .send-bytes .ensures .1) in
+    let k = c .before .before .before .out2 .given in
+    let l = c .before .before .before .before .before .out .given in
+    omega arith
 
 slice-aggregate-write-all : tie.Need-slice-aggregate-write-all
 slice-aggregate-write-all c =

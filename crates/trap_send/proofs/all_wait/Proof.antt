@@ -28,36 +28,42 @@ returns : tie.Need-returns
 returns c =
     let a = c .before .before .before .before .before .before .before .before .args in
     let p = c .before .before .before .before .before .before .before .before .pre in
-    let w = subst (λ (r : Asked). (askedOf (a .bytes .now) r ≡ ask (a .g) (a .clock) (commandOf (a .bytes .now) (a .head))) × AskedIn (a .bytes .now) r) (c .before .before .before .v .given .1) (c .before .before .before .before .before .ask .ensures) in
+    let w = subst (λ (r : Asked). (askedOf (a .bytes .now) r ≡ ask (a .g) (a .clock) (commandOf (a .bytes .now) (a .head))) × AskedIn (a .bytes .now) r)
+    (c .before .before .before .v .given .1) (c .before .before .before .before .before .ask .ensures) in
     λ e. laws.waits-none (a .g) (a .clock) e (a .bytes .now) (a .head) (p .1) _ _ (w .1) (sym (w .0)) _ (c .if1 .taken)
 
 returns-2 : tie.Need-returns-2
 returns-2 c =
     let a = c .before .before .before .before .before .args in
     let p = c .before .before .before .before .before .pre in
-    let w = subst (λ (r : Asked). (askedOf (a .bytes .now) r ≡ ask (a .g) (a .clock) (commandOf (a .bytes .now) (a .head))) × AskedIn (a .bytes .now) r) (c .enum-told .given .1) (c .before .before .ask .ensures) in
+    let w = subst (λ (r : Asked). (askedOf (a .bytes .now) r ≡ ask (a .g) (a .clock) (commandOf (a .bytes .now) (a .head))) × AskedIn (a .bytes .now) r)
+    (c .enum-told .given .1) (c .before .before .ask .ensures) in
     λ e. laws.waits-nothing (a .g) (a .clock) e (a .bytes .now) (a .head) (p .1) _ (sym (w .0))
 
 returns-3 : tie.Need-returns-3
 returns-3 c =
     let a = c .before .before .before .before .before .args in
     let p = c .before .before .before .before .before .pre in
-    let w = subst (λ (r : Asked). (askedOf (a .bytes .now) r ≡ ask (a .g) (a .clock) (commandOf (a .bytes .now) (a .head))) × AskedIn (a .bytes .now) r) (c .enum-told2 .given .1) (c .before .before .ask .ensures) in
+    let w = subst (λ (r : Asked). (askedOf (a .bytes .now) r ≡ ask (a .g) (a .clock) (commandOf (a .bytes .now) (a .head))) × AskedIn (a .bytes .now) r)
+    (c .enum-told2 .given .1) (c .before .before .ask .ensures) in
     λ e. laws.waits-uncacheable (a .g) (a .clock) e (a .bytes .now) (a .head) (p .1) _ (sym (w .0))
 
 returns-4 : tie.Need-returns-4
 returns-4 c =
     let a = c .before .before .before .before .before .before .args in
     let p = c .before .before .before .before .before .before .pre in
-    let w = subst (λ (r : Asked). (askedOf (a .bytes .now) r ≡ ask (a .g) (a .clock) (commandOf (a .bytes .now) (a .head))) × AskedIn (a .bytes .now) r) (c .before .key .given .1) (c .before .before .before .ask .ensures) in
+    let w = subst (λ (r : Asked). (askedOf (a .bytes .now) r ≡ ask (a .g) (a .clock) (commandOf (a .bytes .now) (a .head))) × AskedIn (a .bytes .now) r)
+    (c .before .key .given .1) (c .before .before .before .ask .ensures) in
     λ e. laws.waits-one (a .g) (a .clock) e (a .bytes .now) (a .head) (p .1) _ _ _ (w .1) (sym (w .0))
 
 returns-5 : tie.Need-returns-5
 returns-5 c =
     let a = c .before .before .before .before .before .before .before .before .args in
     let p = c .before .before .before .before .before .before .before .before .pre in
-    let w = subst (λ (r : Asked). (askedOf (a .bytes .now) r ≡ ask (a .g) (a .clock) (commandOf (a .bytes .now) (a .head))) × AskedIn (a .bytes .now) r) (c .before .before .before .v .given .1) (c .before .before .before .before .before .ask .ensures) in
-    λ e. laws.waits-several (a .g) (a .clock) e (a .bytes .now) (a .head) (p .1) (c .before .before .before .v .given .0 .0) _ (w .1) (sym (w .0)) (c .if1 .left)
+    let w = subst (λ (r : Asked). (askedOf (a .bytes .now) r ≡ ask (a .g) (a .clock) (commandOf (a .bytes .now) (a .head))) × AskedIn (a .bytes .now) r)
+    (c .before .before .before .v .given .1) (c .before .before .before .before .before .ask .ensures) in
+    λ e. laws.waits-several (a .g) (a .clock) e (a .bytes .now) (a .head) (p .1) (c .before .before .before .v .given .0 .0) _ (w .1) (sym (w .0))
+    (c .if1 .left)
 
 pub all-wait-spec : {M : Type 1} → statement M
 all-wait-spec =

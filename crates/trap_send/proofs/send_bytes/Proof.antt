@@ -41,8 +41,12 @@ send-admitted-requires c κs =
 
 returns-2 : tie.Need-returns-2
 returns-2 c =
-    let a = c .before .before .before .before .before .before .before .before .before .before .args in
-    (laws.cache-refused (a .bytes .now) (a .out .now) (omega arith) _ (c .before .before .before .before .before .setup .ensures .1 ∙ laws.empty-set-up (replicate {A = ℕ} 64 0) refl) _ (sym (c .before .before .admit .ensures) ∙ c .enum-told .given .1), tt)
+    let a = c .before .before .before .before .before .before .before .before .before .before .args in (
+      laws.cache-refused (a .bytes .now) (a .out .now) (omega arith) _
+          (c .before .before .before .before .before .setup .ensures .1 ∙ laws.empty-set-up (replicate {A = ℕ} 64 0) refl) _
+          (sym (c .before .before .admit .ensures) ∙ c .enum-told .given .1),
+      tt,
+    )
 
 same-length : tie.Need-same-length
 same-length c = search needs
@@ -50,8 +54,14 @@ same-length c = search needs
 returns-3 : tie.Need-returns-3
 returns-3 c =
     let a = c .before .before .before .before .before .before .before .before .before .before .before .before .before .before .before .before .args in
-    let e = c .before .before .send-admitted .ensures in
-    (laws.cache-admitted (a .bytes .now) (a .out .now) (omega arith) _ (c .before .before .before .before .before .before .before .before .before .before .before .setup .ensures .1 ∙ laws.empty-set-up (replicate {A = ℕ} 64 0) refl) _ (sym (c .before .before .before .before .before .before .before .before .admit .ensures) ∙ c .before .before .before .before .before .before .g .given .1) _ (e .0), e .1)
+    let e = c .before .before .send-admitted .ensures in (
+      laws.cache-admitted (a .bytes .now) (a .out .now) (omega arith) _
+          (c .before .before .before .before .before .before .before .before .before .before .before .setup .ensures .1
+          ∙ laws.empty-set-up (replicate {A = ℕ} 64 0) refl) _
+          (sym (c .before .before .before .before .before .before .before .before .admit .ensures)
+          ∙ c .before .before .before .before .before .before .g .given .1) _ (e .0),
+      e .1,
+    )
 
 pub send-bytes-spec : {M : Type 1} → statement M
 send-bytes-spec =

@@ -23,13 +23,17 @@ head-at-requires : tie.Need-head-at-requires Inv-loop μ-loop
 head-at-requires c κs = planable-room _ _ _ _ _ _ (one-more _ (λ z. omega arith)) (c .before .loop .inv .ahead)
 
 command-len-requires : tie.Need-command-len-requires Inv-loop μ-loop
-command-len-requires c κs = let w = c .before .before .before .before .before .pre in (planable-first _ _ _ _ _ _ (one-more _ (λ z. omega arith)) (c .before .before .loop .inv .ahead) _ (c .head-at .ensures), w .1, w .2)
+command-len-requires c κs =
+    let w = c .before .before .before .before .before .pre in
+    (planable-first _ _ _ _ _ _ (one-more _ (λ z. omega arith)) (c .before .before .loop .inv .ahead) _ (c .head-at .ensures), w .1, w .2)
 
 spend-requires : tie.Need-spend-requires Inv-loop μ-loop
 spend-requires c κs = tt
 
 args-end-requires : tie.Need-args-end-requires Inv-loop μ-loop
-args-end-requires c κs = planable-first _ _ _ _ _ _ (one-more _ (λ z. omega arith)) (c .before .before .before .before .loop .inv .ahead) _ (c .before .before .head-at .ensures) .here
+args-end-requires c κs =
+    planable-first _ _ _ _ _ _ (one-more _ (λ z. omega arith)) (c .before .before .before .before .loop .inv .ahead) _
+    (c .before .before .head-at .ensures) .here
 
 sub-left : tie.Need-sub-left Inv-loop μ-loop
 sub-left c = omega arith
@@ -41,8 +45,11 @@ loop-again : tie.Need-loop-again Inv-loop μ-loop
 loop-again c =
     let l : ℕ = c .before .before .before .before .before .loop .left in
     let d = c .before .before .before .head-at .ensures in
-    let f = c .args-end .ensures ∙ ap (λ (x : Head). argsEnd (c .before .before .before .before .before .before .before .before .args .bytes .now) (x .args .left) (x .args .at)) d in
-    rw (c .before .spend .ensures) (laws.counted-next _ _ _ _ _ _ _ _ l (l - 1) _ _ _ _ _ (one-more l (λ z. omega arith)) d f (c .before .before .command-len .ensures) (c .before .before .before .before .before .loop .inv))
+    let f = c .args-end .ensures ∙ ap
+    (λ (x : Head). argsEnd (c .before .before .before .before .before .before .before .before .args .bytes .now) (x .args .left) (x .args .at)) d in
+    rw (c .before .spend .ensures)
+    (laws.counted-next _ _ _ _ _ _ _ _ l (l - 1) _ _ _ _ _ (one-more l (λ z. omega arith)) d f (c .before .before .command-len .ensures)
+    (c .before .before .before .before .before .loop .inv))
 
 returns : tie.Need-returns Inv-loop μ-loop
 returns c = λ rows o. laws.counted-end _ _ _ _ _ _ _ _ _ _ _ (omega arith) (c .before .loop .inv) rows o

@@ -18,8 +18,13 @@ write-sent-requires c κs =
     let a = c .before .before .before .before .before .args in
     let w = c .before .before .before .before .before .pre in
     let q = w .2 in
-    let k = c .before .all-wait .ensures (a .epoch) in
-    (w .0 .here, k .inside, room-is _ _ _ _ (ap (λ (z : ℕ → Row). sentFor (setupNow (a .g)) z (a .clock) (a .epoch) (a .g) (commandOf (a .bytes .now) (a .head))) (w .4 .none (q .rows) (q .lent)) ∙ k .sent) (w .3 (q .rows) (q .lent)))
+    let k = c .before .all-wait .ensures (a .epoch) in (
+      w .0 .here,
+      k .inside,
+      room-is _ _ _ _
+          (ap (λ (z : ℕ → Row). sentFor (setupNow (a .g)) z (a .clock) (a .epoch) (a .g) (commandOf (a .bytes .now) (a .head))) (w .4 .none (q .rows) (q .lent))
+          ∙ k .sent) (w .3 (q .rows) (q .lent)),
+    )
 
 same-length : tie.Need-same-length
 same-length c = search needs
@@ -29,7 +34,9 @@ returns c =
     let a = c .before .before .before .before .before .before .before .before .args in
     let w = c .before .before .before .before .before .before .before .before .pre in
     let k = c .before .before .before .before .all-wait .ensures (a .epoch) in
-    λ rows o. wrote-as _ _ _ _ _ _ (ap (λ (z : ℕ → Row). sentFor (setupNow (a .g)) z (a .clock) (a .epoch) (a .g) (commandOf (a .bytes .now) (a .head))) (w .4 .none rows o) ∙ k .sent) (c .before .before .write-sent .ensures)
+    λ rows o. wrote-as _ _ _ _ _ _
+    (ap (λ (z : ℕ → Row). sentFor (setupNow (a .g)) z (a .clock) (a .epoch) (a .g) (commandOf (a .bytes .now) (a .head))) (w .4 .none rows o) ∙ k .sent)
+    (c .before .before .write-sent .ensures)
 
 pub write-command-spec : {M : Type 1} → statement M
 write-command-spec =

@@ -25,11 +25,20 @@ head-at-requires c κs = planable-room _ _ _ _ _ _ (one-more _ (λ z. omega arit
 write-command-requires : tie.Need-write-command-requires Inv-loop μ-loop
 write-command-requires c κs =
     let w = c .before .before .before .before .before .before .before .pre in
-    let i = c .before .before .before .loop .inv in
-    (planable-first _ _ _ _ _ _ (one-more _ (λ z. omega arith)) (c .before .before .before .loop .inv .ahead) _ (c .before .head-at .ensures), w .1, w .2, laws.writing-room _ _ _ _ _ _ _ _ _ _ _ _ _ _ (one-more _ (λ z. omega arith)) (c .before .head-at .ensures) _ _ refl i, w .4)
+    let i = c .before .before .before .loop .inv in (
+      planable-first _ _ _ _ _ _ (one-more _ (λ z. omega arith)) (c .before .before .before .loop .inv .ahead) _
+          (c .before .head-at .ensures),
+      w .1,
+      w .2,
+      laws.writing-room _ _ _ _ _ _ _ _ _ _ _ _ _ _ (one-more _ (λ z. omega arith))
+          (c .before .head-at .ensures) _ _ refl i,
+      w .4,
+    )
 
 args-end-requires : tie.Need-args-end-requires Inv-loop μ-loop
-args-end-requires c κs = planable-first _ _ _ _ _ _ (one-more _ (λ z. omega arith)) (c .before .before .before .before .before .before .loop .inv .ahead) _ (c .before .before .before .before .head-at .ensures) .here
+args-end-requires c κs =
+    planable-first _ _ _ _ _ _ (one-more _ (λ z. omega arith)) (c .before .before .before .before .before .before .loop .inv .ahead) _
+    (c .before .before .before .before .head-at .ensures) .here
 
 sub-left : tie.Need-sub-left Inv-loop μ-loop
 sub-left c = omega arith
@@ -41,8 +50,12 @@ loop-again : tie.Need-loop-again Inv-loop μ-loop
 loop-again c =
     let l : ℕ = c .before .before .before .before .before .before .before .loop .left in
     let d = c .before .before .before .before .before .head-at .ensures in
-    let f = c .args-end .ensures ∙ ap (λ (x : Head). argsEnd (c .before .before .before .before .before .before .before .before .before .before .before .args .bytes .now) (x .args .left) (x .args .at)) d in
-    laws.writing-next _ _ _ _ _ _ _ _ _ l (l - 1) _ _ _ (one-more l (λ z. omega arith)) d _ _ f (c .before .before .before .before .before .before .before .before .before .before .before .pre .2) _ _ (c .before .before .before .write-command .ensures) (c .before .before .before .before .before .before .before .loop .inv)
+    let f = c .args-end .ensures ∙ ap
+    (λ (x : Head). argsEnd (c .before .before .before .before .before .before .before .before .before .before .before .args .bytes .now) (x .args .left)
+    (x .args .at)) d in
+    laws.writing-next _ _ _ _ _ _ _ _ _ l (l - 1) _ _ _ (one-more l (λ z. omega arith)) d _ _ f
+    (c .before .before .before .before .before .before .before .before .before .before .before .pre .2) _ _
+    (c .before .before .before .write-command .ensures) (c .before .before .before .before .before .before .before .loop .inv)
 
 same-length : tie.Need-same-length Inv-loop μ-loop
 same-length c = c .before .loop .inv .long
