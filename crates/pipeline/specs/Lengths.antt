@@ -18,7 +18,7 @@ use Rattle.cursor.specs.declared.Head.{Head}
 use Rattle.cursor.specs.declared.Range.{Range}
 use Rattle.command_key.specs.Keys.{range-length}
 use Rattle.cmd.specs.Pack.{sent, packed, pttlTexts, head, blob, blobBytes}
-use Rattle.cmd.specs.Laws.{bounded, head-length, blob-length, blobsAt, blobs-none, blobs-length, packed-length, pttlStart, pttl-pieces, caching-is, pttl-length}
+use Rattle.cmd.specs.Laws.{bounded, head-length, blob-length, blobsAt, blobs-none, blobs-length, packed-length, pttlStart, pttl-pieces, caching-is}
 use Rattle.format.specs.Runs.{encAll}
 use Rattle.planning.specs.Sent.{pttls}
 use Rattle.ask.specs.Asked.{severalName, pathIn, SeveralIn}
@@ -115,6 +115,10 @@ path-length s v x w m k j p =
 
 pub no-path : (s : Bytes) (v : Several) → SeveralIn s v → v .json ≡ false → (0 ≡ length (blobBytes (pathIn s v))) × (0 ≤ 2 ^ 32)
 no-path s v w j = (sym (ap length (path-none s v w j)), omega arith)
+
+-- `PTTL` and a key
+pttl-length : (key : Bytes) → length (packed (pttlTexts key)) ≡ 14 + (5 + length (digits (length key)) + length key)
+pttl-length key = ap length (pttl-pieces key) ∙ length-append pttlStart (blob key) ∙ ap (λ (n : ℕ). 14 + n) (blob-length key)
 
 -- a `PTTL` for each key
 pttls-length : (ks : List Bytes) → length (encAll packed (pttls ks)) ≡ length (blobBytes ks) + 14 * length ks
