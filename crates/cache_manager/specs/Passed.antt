@@ -19,13 +19,13 @@ use Rattle.plan_write.specs.Pieces.{planHead, length-plan-head}
 use Rattle.plan_write.specs.Wrote.{wrote-both, wrote-is, room-first, room-second}
 use Rattle.statistics.specs.declared.Statistics.{Statistics}
 use Rattle.sharded_lru.specs.Lent.{setupNow, Lent, Arena}
-use Rattle.plan_sizes.specs.Sizes.{allNodes, allSent, sentCount}
-use Rattle.pipeline.specs.Wrapped.{startBytes, endBytes}
-use Rattle.look_up.specs.Looks.{Keeps}
-use Rattle.dry_pass.specs.Room.{spent, whole, spent-more, whole-short}
-use Rattle.dry_pass.specs.declared.Room.{Room as Rest}
-use Rattle.plan_pass.specs.Does.{Does, Room}
-use Rattle.plan_pass.specs.declared.Progress.{Progress}
+use Rattle.planning_outcome.specs.Sizes.{allNodes, allSent, sentCount}
+use Rattle.planning_send_len.specs.Wrapped.{startBytes, endBytes}
+use Rattle.planning_look_up.specs.Looks.{Keeps}
+use Rattle.planning_dry_pass.specs.Room.{spent, whole, spent-more, whole-short}
+use Rattle.planning_dry_pass.specs.declared.Room.{Room as Rest}
+use Rattle.planning_second_pass.specs.Does.{Does, Room}
+use Rattle.planning_second_pass.specs.declared.Progress.{Progress}
 use Rattle.cache_manager.specs.Pipeline.{returnedOf, wrote}
 use Rattle.cache_manager.specs.Planned.{planBytes, sendBytes}
 use Rattle.cache_manager.specs.declared.Written.{Written}

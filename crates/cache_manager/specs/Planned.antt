@@ -22,8 +22,8 @@ use Rattle.planning.specs.Planning.{Planned, done, plannedBy, plannedFrom, shor
 use Rattle.planning.specs.Passes as passes
 use Rattle.plan_write.specs.Pieces.{planHead, plan-pieces}
 use Rattle.sharded_lru.specs.Lent.{setupNow}
-use Rattle.plan_sizes.specs.Sizes.{outcomesFor, allNodes, allSent, sentCount, nodes-are, sent-are, count-is, outcomes-on, outcomes-are}
-use Rattle.pipeline.specs.Wrapped.{startBytes, endBytes, wrapped-bytes}
+use Rattle.planning_outcome.specs.Sizes.{outcomesFor, allNodes, allSent, sentCount, nodes-are, sent-are, count-is, outcomes-on, outcomes-are}
+use Rattle.planning_send_len.specs.Wrapped.{startBytes, endBytes, wrapped-bytes}
 use Rattle.cache_manager.specs.Pipeline.{refusedAs, wrote, refusal, pipelined, recorded}
 
 module _ (p : Setup) (rows : ℕ → Row) (t e : ℕ) (g : Settings) (b : Bool) (cs : List Command) where

@@ -3,8 +3,8 @@
 use call_record::Checked;
 use config::Settings;
 use cursor::Commands;
-use dry_pass::Room;
-use plan_pass::Progress;
+use planning_dry_pass::Room;
+use planning_second_pass::Progress;
 use sharded_lru::Admitted;
 use statistics::Statistics;
 ghost use mathlib.Core.Path.{_≡_};
@@ -17,11 +17,11 @@ ghost use Rattle.call_record.specs.Check.{checkDef};
 ghost use Rattle.cursor.specs.At.{commandsOf, recordAt};
 ghost use Rattle.book.specs.Book.{Row, Book};
 ghost use Rattle.sharded_lru.specs.Lent.{setupNow, Lent, Arena};
-ghost use Rattle.look_up.specs.Looks.{Keeps};
-ghost use Rattle.dry_pass.specs.Dry.{Planable};
+ghost use Rattle.planning_look_up.specs.Looks.{Keeps};
+ghost use Rattle.planning_dry_pass.specs.Dry.{Planable};
 ghost use Rattle.call_record.specs.declared.Checked.the-variants.{Fine};
 ghost use Rattle.cache_manager.specs.declared.Pipelined.the-variants.{Refused};
-ghost use Rattle.look_up.specs.Looks.{countsOf};
+ghost use Rattle.planning_look_up.specs.Looks.{countsOf};
 ghost use Rattle.call_entry.specs.Entered.{holding};
 ghost use Rattle.cache_manager.specs.Pipeline.{planCall, recorded, admittedTo, Leaves};
 ghost use Rattle.cache_manager.specs.Planned.{planBytes, sendBytes};
@@ -91,13 +91,13 @@ fn is_short(
         left: plan,
         short: false,
     };
-    let p = dry_pass::spend(whole, 8);
+    let p = planning_dry_pass::spend(whole, 8);
     let empty = Room {
         left: send,
         short: false,
     };
-    let q = dry_pass::spend(empty, pipeline::wrap_len(transaction));
-    dry_pass::dry_pass(bytes, k, arena, g, clock, epoch, p, q)
+    let q = planning_dry_pass::spend(empty, planning_send_len::wrap_len(transaction));
+    planning_dry_pass::dry_pass(bytes, k, arena, g, clock, epoch, p, q)
 }
 
 // Both buffers written, where there is room, and the lookups done.
@@ -118,15 +118,15 @@ fn write_pipeline(
 {
     let n = k.left;
     let to = plan_write::write_plan_head(plan, transaction, n as u32);
-    let from = pipeline::write_start(send, 0, transaction);
+    let from = planning_send_len::write_start(send, 0, transaction);
     let x = Progress {
         to,
         from,
         sent: 0,
         counts,
     };
-    let y = plan_pass::plan_commands(arena, plan, send, bytes, k, g, clock, epoch, x);
-    let end = pipeline::write_end(send, y.from, transaction);
+    let y = planning_second_pass::plan_commands(arena, plan, send, bytes, k, g, clock, epoch, x);
+    let end = planning_send_len::write_end(send, y.from, transaction);
     let after = y.counts;
     let written = written_of(transaction, y.to, end, y.sent);
     CachedPipeline {
@@ -160,7 +160,7 @@ fn plan_record(
     ensures { λ r. ⌜ ((rows : ℕ → Row) (next : ℕ) → Lent g (now (arena .entry)) rows → Leaves (recorded clock epoch (now (bytes .entry)) (now (plan .entry)) (now (send .entry)) (holding (now (arena .entry)) (countsOf counts) next) g rows (recordAt (now (bytes .entry)))) (now (arena .exit)) (now (plan .exit)) (now (send .exit)) r) ⌝ }
 {
     let k = cursor::commands_of(bytes);
-    if ask::any_late(bytes, k, g, clock) {
+    if planning_ask::any_late(bytes, k, g, clock) {
         return refused(config::LATE_EXPIRY, counts);
     }
     let transaction = cursor::is_transaction(bytes);

@@ -29,7 +29,7 @@ use Rattle.planning.specs.Ask.{anyLate}
 use Rattle.planning.specs.Outcome.{wanted}
 use Rattle.planning.specs.Plan as nodes
 use Rattle.planning.specs.Planning as planned
-use Rattle.plan_commands.specs.Commands.{planRead}
+use Rattle.resolving_walk.specs.Commands.{planRead}
 use Rattle.resolving.specs.Pushes.{isInvalidate, invalidating, fromElements, fromPush, pushed}
 use Rattle.resolving.specs.Resolve as resolvings
 use Rattle.resolving.specs.Resolve.{Resolved, cause7, answered}

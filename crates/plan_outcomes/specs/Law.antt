@@ -23,7 +23,7 @@ use Rattle.planning.specs.Rules.{GoodPlan}
 use Rattle.resolving.specs.Plan.{Missing, Plan}
 use Rattle.plan.specs.Decode.{decodePlan}
 use Rattle.plan.specs.Law.{decode-law}
-use Rattle.plan_commands.specs.Commands.{valueAt, placeAt, valuesAt, placesAt, commandsOf, planRead}
+use Rattle.resolving_walk.specs.Commands.{valueAt, placeAt, valuesAt, placesAt, commandsOf, planRead}
 use Rattle.plan_outcomes.specs.Outcomes.{missingUntil, valuesGiven, placeGiven, servedGiven, missingGiven, commandGiven, planGiven}
 use Rattle.plan_outcomes.specs.Outcomes.{placesMissing, commandMissing, commandsMissing, untilGiven}
 

@@ -20,22 +20,22 @@ use Rattle.planning.specs.Ask as asks
 use Rattle.planning.specs.Outcome as plan
 use Rattle.planning.specs.Sent.{keysOf, sends, sentBytes}
 use Rattle.planning.specs.Small.{parts-count}
-use Rattle.ask.specs.Asked.{severalName, pathIn, keysIn, wantedIn, SeveralIn}
-use Rattle.ask.specs.declared.Several.{Several}
+use Rattle.planning_ask.specs.Asked.{severalName, pathIn, keysIn, wantedIn, SeveralIn}
+use Rattle.planning_ask.specs.declared.Several.{Several}
 use Rattle.sharded_lru.specs.Laws.{sized}
 use Rattle.sharded_lru.specs.Lent.{setupNow, Lent, Arena}
-use Rattle.cached_cmd.specs.Result.{placeOn, placesOn, outcomeFor, severalItem, Tells}
-use Rattle.cached_cmd.specs.Places.{tells-nothing, tells-uncacheable, tells-item, outcome-one, outcome-several, single-miss, several-served, several-missing}
-use Rattle.cached_cmd.specs.declared.Served.the-variants.{Values}
-use Rattle.cached_cmd.specs.declared.CacheableCommand.the-variants.{Single, Multiple}
-use Rattle.cached_cmd.specs.declared.PrepCacheItem.the-variants.{Cached, NotCached, NotCacheable}
-use Rattle.cached_cmd.specs.declared.CachingResult.the-variants.{Item, Ignored}
-use Rattle.look_up.specs.Finds.{lent-same}
-use Rattle.several_keys.specs.Source.{keysAt, KeysIn}
-use Rattle.several_keys.specs.declared.Source.{Source}
-use Rattle.several_keys.specs.declared.Source.the-variants.{Keys}
-use Rattle.plan_sizes.specs.Sizes.{sentFor}
-use Rattle.pack_command.specs.Sends.{sentWith, ResultSends, Holds, sent-held}
+use Rattle.planning_outcome.specs.Result.{placeOn, placesOn, outcomeFor, severalItem, Tells}
+use Rattle.planning_outcome.specs.Places.{tells-nothing, tells-uncacheable, tells-item, outcome-one, outcome-several, single-miss, several-served, several-missing}
+use Rattle.planning_outcome.specs.declared.Served.the-variants.{Values}
+use Rattle.planning_outcome.specs.declared.CacheableCommand.the-variants.{Single, Multiple}
+use Rattle.planning_outcome.specs.declared.PrepCacheItem.the-variants.{Cached, NotCached, NotCacheable}
+use Rattle.planning_outcome.specs.declared.CachingResult.the-variants.{Item, Ignored}
+use Rattle.planning_look_up.specs.Finds.{lent-same}
+use Rattle.planning_places.specs.Source.{keysAt, KeysIn}
+use Rattle.planning_places.specs.declared.Source.{Source}
+use Rattle.planning_places.specs.declared.Source.the-variants.{Keys}
+use Rattle.planning_outcome.specs.Sizes.{sentFor}
+use Rattle.planning_send.specs.Sends.{sentWith, ResultSends, Holds, sent-held}
 use Rattle.trap_send.specs.declared.Waiting.{Waiting}
 
 -- rows with no item

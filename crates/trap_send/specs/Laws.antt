@@ -24,12 +24,12 @@ use Rattle.planning.specs.Ask.{anyLate}
 use Rattle.sharded_lru.specs.Lent.{setupNow, Lent}
 use Rattle.sharded_lru.specs.Admit.{admitted, admits}
 use Rattle.sharded_lru.specs.declared.Admitted.the-variants.{Admits, Refused}
-use Rattle.plan_sizes.specs.Sizes.{allSent}
-use Rattle.pipeline.specs.Wrapped.{startBytes, endBytes}
+use Rattle.planning_outcome.specs.Sizes.{allSent}
+use Rattle.planning_send_len.specs.Wrapped.{startBytes, endBytes}
 use Rattle.trap_send.specs.Walk.{Fits}
-use Rattle.dry_pass.specs.Room.{spent, whole}
-use Rattle.dry_pass.specs.Dry.{Planable}
-use Rattle.dry_pass.specs.declared.Room.{Room}
+use Rattle.planning_dry_pass.specs.Room.{spent, whole}
+use Rattle.planning_dry_pass.specs.Dry.{Planable}
+use Rattle.planning_dry_pass.specs.declared.Room.{Room}
 use Rattle.single_calls.specs.Setup.{freshArena}
 use Rattle.cache_manager.specs.Pipeline.{recorded, admittedTo, planCall}
 use Rattle.cache_manager.specs.Planned.{planBytes, sendBytes, sendNow, late-refused, short-refused, all-written}

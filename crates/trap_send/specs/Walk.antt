@@ -17,12 +17,12 @@ use Rattle.cmd.specs.Laws.{Wrote}
 use Rattle.book.specs.Book.{Row}
 use Rattle.plan_write.specs.Wrote.{wrote-none, wrote-both, wrote-long, room-first, room-second}
 use Rattle.sharded_lru.specs.Lent.{setupNow, Lent, Arena}
-use Rattle.plan_sizes.specs.Sizes.{sentFor, allSent}
-use Rattle.pipeline.specs.Wrapped.{startBytes, endBytes}
+use Rattle.planning_outcome.specs.Sizes.{sentFor, allSent}
+use Rattle.planning_send_len.specs.Wrapped.{startBytes, endBytes}
 use Rattle.cache_manager.specs.Planned.{sendBytes}
-use Rattle.dry_pass.specs.Room.{spent, spent-none, spent-more}
-use Rattle.dry_pass.specs.Dry.{Planable, planable-next}
-use Rattle.dry_pass.specs.declared.Room.{Room}
+use Rattle.planning_dry_pass.specs.Room.{spent, spent-none, spent-more}
+use Rattle.planning_dry_pass.specs.Dry.{Planable, planable-next}
+use Rattle.planning_dry_pass.specs.declared.Room.{Room}
 
 -- ---- what is written by the rows that the arena holds
 

@@ -1,17 +1,17 @@
 // What the program trap_plan sends: the call record is planned, at clock 0 in mode All, on a cache of four keys that holds nothing (docs/BEHAVIOUR.md, T1).
 // A plan of such a record can be far longer than what is sent for it, so none is written: planning's own pieces are: on the empty cache
 // every key waits. specs/Send.antt says what is written.
-use ask::Asked;
-use cached_cmd::CacheableCommand;
-use cached_cmd::CachingResult;
-use cached_cmd::PrepCacheItem;
-use cached_cmd::Served;
 use call_record::Checked;
 use config::Settings;
 use cursor::Commands;
 use cursor::Head;
-use dry_pass::Room;
-use several_keys::Source;
+use planning_ask::Asked;
+use planning_dry_pass::Room;
+use planning_outcome::CacheableCommand;
+use planning_outcome::CachingResult;
+use planning_outcome::PrepCacheItem;
+use planning_outcome::Served;
+use planning_places::Source;
 use sharded_lru::Admitted;
 ghost use mathlib.Core.Path.{_≡_};
 ghost use Prim.Native.Nat.{ℕ, _≤_};
@@ -22,11 +22,11 @@ ghost use Rattle.call_record.specs.declared.Checked.the-variants.{Fine};
 ghost use Rattle.cursor.specs.At.{commandOf, commandsOf, recordAt};
 ghost use Rattle.book.specs.Book.{Row, Counts};
 ghost use Rattle.sharded_lru.specs.Lent.{setupNow, Lent, Arena};
-ghost use Rattle.plan_sizes.specs.Sizes.{sentFor, allSent};
+ghost use Rattle.planning_outcome.specs.Sizes.{sentFor, allSent};
 ghost use Rattle.trap_send.specs.Walk.{Fits, Puts};
 ghost use Rattle.trap_send.specs.Blank.{Blank, Waits};
-ghost use Rattle.dry_pass.specs.Room.{spent};
-ghost use Rattle.dry_pass.specs.Dry.{Planable, One};
+ghost use Rattle.planning_dry_pass.specs.Room.{spent};
+ghost use Rattle.planning_dry_pass.specs.Dry.{Planable, One};
 ghost use Rattle.cache_manager.specs.Pipeline.{recorded, admittedTo};
 ghost use Rattle.cache_manager.specs.Planned.{sendBytes};
 ghost use Rattle.trap_send.specs.Send.{maxRecord, held, output, outputOf, Settles, sendsWith, Within};
@@ -53,7 +53,7 @@ fn command_len(bytes: &[u8], head: Head, arena: &[u8], g: Settings, clock: u64, 
     requires { ⌜ One g clock (now bytes) head × (length (now bytes) ≤ maxBytes) × Arena g (now arena) ⌝ }
     ensures { λ r. ⌜ ((rows : ℕ → Row) → Lent g (now (arena .entry)) rows → r ≡ length (sentFor (setupNow g) rows clock epoch g (commandOf (now (bytes .entry)) head))) ⌝ }
 {
-    let size = dry_pass::size_of(bytes, head, arena, g, clock, epoch);
+    let size = planning_dry_pass::size_of(bytes, head, arena, g, clock, epoch);
     size.send
 }
 
@@ -69,7 +69,7 @@ fn all_wait(bytes: &[u8], head: Head, g: Settings, clock: u64) -> Waiting
     ensures { λ r. ⌜ ((e : ℕ) → Waits g clock e (now (bytes .entry)) head r) ⌝ }
 {
     let args = head.args;
-    match ask::ask(bytes, head, g, clock) {
+    match planning_ask::ask(bytes, head, g, clock) {
         Asked::Nothing => Waiting {
             result: CachingResult::Ignored,
             keys: Source::Keys(args),
@@ -124,7 +124,7 @@ fn write_command(
     let w = all_wait(bytes, head, g, clock);
     let result = w.result;
     let keys = w.keys;
-    pack_command::write_sent(out, to, bytes, head, result, mode, bytes, keys)
+    planning_send::write_sent(out, to, bytes, head, result, mode, bytes, keys)
 }
 
 // The room that is left in a buffer once what is sent for the commands is taken.
@@ -145,7 +145,7 @@ fn send_room(
     let mut q = room;
     while left > 0 {
         let head = cursor::head_at(bytes, at);
-        q = dry_pass::spend(q, command_len(bytes, head, arena, g, clock, epoch));
+        q = planning_dry_pass::spend(q, command_len(bytes, head, arena, g, clock, epoch));
         at = cursor::args_end(bytes, head.args);
         left -= 1;
     }
@@ -192,9 +192,9 @@ fn write_pipeline(
     requires { ⌜ Planable g clock (now bytes) (k .left) (k .at) × (length (now bytes) ≤ maxBytes) × Arena g (now arena) × Fits g (now arena) (λ rows. sendBytes (setupNow g) rows clock epoch g transaction (commandsOf (now bytes) k)) 0 (length (now out)) × Blank g (now arena) ⌝ }
     ensures { λ r. ⌜ Puts g (now (arena .entry)) (λ rows. sendBytes (setupNow g) rows clock epoch g transaction (commandsOf (now (bytes .entry)) k)) (now (out .entry)) 0 (now (out .exit)) r ⌝ }
 {
-    let from = pipeline::write_start(out, 0, transaction);
+    let from = planning_send_len::write_start(out, 0, transaction);
     let to = write_commands(out, from, bytes, k, arena, g, clock, epoch);
-    pipeline::write_end(out, to, transaction)
+    planning_send_len::write_end(out, to, transaction)
 }
 
 // A record that is one.
@@ -203,7 +203,7 @@ fn send_record(bytes: &[u8], out: &mut [u8], arena: &[u8], g: Settings) -> Sent
     ensures { λ r. ⌜ ((rows : ℕ → Row) (n : Counts) (next : ℕ) → Lent g (now (arena .entry)) rows → Settles (λ d. outputOf (recorded 0 0 (now (bytes .entry)) d (now (out .entry)) (held (now (arena .entry)) n next) g rows (recordAt (now (bytes .entry))))) (output r (now (out .exit)))) × Within r (length (now (out .entry))) ⌝ }
 {
     let k = cursor::commands_of(bytes);
-    if ask::any_late(bytes, k, g, 0) {
+    if planning_ask::any_late(bytes, k, g, 0) {
         return Sent::Nothing;
     }
     let transaction = cursor::is_transaction(bytes);
@@ -211,7 +211,7 @@ fn send_record(bytes: &[u8], out: &mut [u8], arena: &[u8], g: Settings) -> Sent
         left: out.len(),
         short: false,
     };
-    let room = dry_pass::spend(whole, pipeline::wrap_len(transaction));
+    let room = planning_dry_pass::spend(whole, planning_send_len::wrap_len(transaction));
     let rest = send_room(bytes, k, arena, g, 0, 0, room);
     if rest.short {
         return Sent::Nothing;

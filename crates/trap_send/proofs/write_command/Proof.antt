@@ -5,7 +5,7 @@ use Rattle.cursor.specs.At.{commandOf}
 use Rattle.book.specs.Book.{Row}
 use Rattle.plan_write.specs.Wrote.{wrote-as, room-is}
 use Rattle.sharded_lru.specs.Lent.{setupNow}
-use Rattle.plan_sizes.specs.Sizes.{sentFor}
+use Rattle.planning_outcome.specs.Sizes.{sentFor}
 use borrow.Author.Needs.{needs}
 use Rattle.trap_send.proofs.write_command.Statement.{statement}
 use Rattle.trap_send.proofs.write_command.Tie as tie
