@@ -25,7 +25,7 @@ use Rattle.book.specs.Calls.{lookups, ons}
 use Rattle.arena.specs.Layout.{encode}
 use Rattle.arena.specs.Decode.{decode}
 use Rattle.arena.specs.Sequence.{Held, lend, bookOf}
-use Rattle.planning.specs.Ask.{anyLate}
+use Rattle.planning.specs.Ask.{ask, anyLate}
 use Rattle.planning.specs.Outcome.{wanted}
 use Rattle.sharded_lru.specs.Lent.{setupNow}
 use Rattle.sharded_lru.specs.Admit.{admitted}
@@ -111,7 +111,7 @@ module _ (t e : ℕ) (s d f a : Bytes) (g : Settings) (k : Commands) (counts : S
             arena =
                 sym (y .keeps .rows .image .bytes) ∙ ap
                 (λ (m : ℕ). encode (setupNow g) m
-                (afterAll (setupNow g) (ons (lookups t e (wanted g t (recordAt s .commands)))) (bookOf rows (holding a (countsOf counts) next)) .rows)) n;
+                (afterAll (setupNow g) (ons (lookups t e (wanted (ask g t) (recordAt s .commands)))) (bookOf rows (holding a (countsOf counts) next)) .rows)) n;
             counts = y .keeps .counts;
             plan = y .plan;
             send = y .send;

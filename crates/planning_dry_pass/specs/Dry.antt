@@ -14,7 +14,7 @@ use Rattle.cursor.specs.At.{argsAt, ArgsHere, headAt, commandOf, commandNext, c
 use Rattle.cursor.specs.Steps.{commands-none, commands-more, commands-in}
 use Rattle.cursor.specs.declared.Head.{Head}
 use Rattle.book.specs.Book.{Row}
-use Rattle.planning.specs.Ask.{anyLate}
+use Rattle.planning.specs.Ask.{ask, anyLate}
 use Rattle.planning.specs.Outcome.{CachingResult}
 use Rattle.planning_ask.specs.Asked.{late, OnTime}
 use Rattle.sharded_lru.specs.Lent.{setupNow, Lent}
@@ -77,11 +77,11 @@ module _ (g : Settings) (t : ℕ) (s : Bytes) (m n at : ℕ) (q : m ≡ n + 1) (
 
 -- a command's size
 pub record SizeIs (g : Settings) (rows : ℕ → Row) (t e : ℕ) (c : Command) (z : Size) : Type 0 where
-  pub plan : z .plan ≡ length (nodesFor (setupNow g) rows t e g c)
-  pub send : z .send ≡ length (sentFor (setupNow g) rows t e g c)
+  pub plan : z .plan ≡ length (nodesFor (setupNow g) rows t e (ask g t) c)
+  pub send : z .send ≡ length (sentFor (setupNow g) rows t e (ask g t) (g .mode) c)
 
 -- from the outcome's
-pub sized-is : (g : Settings) (rows : ℕ → Row) (t e : ℕ) (c : Command) (o : CachingResult) (z : Size) → outcomeFor (setupNow g) rows t e g c ≡ o
+pub sized-is : (g : Settings) (rows : ℕ → Row) (t e : ℕ) (c : Command) (o : CachingResult) (z : Size) → outcomeFor (setupNow g) rows t e (ask g t) c ≡ o
     → SizedAs (g .mode) c o z
     → SizeIs g rows t e c z
 sized-is g rows t e c o z q w =
@@ -94,9 +94,9 @@ sized-is g rows t e c o z q w =
 pub record Walked (g : Settings) (a s : Bytes) (t e : ℕ) (m₀ at₀ : ℕ) (p₀ q₀ : Room) (m at : ℕ) (p q : Room) : Type 0 where
   pub ahead : Planable g t s m at
   pub plan : (rows : ℕ → Row) → Lent g a rows
-      → spent p₀ (length (allNodes (setupNow g) rows t e g (commandsAt s m₀ at₀))) ≡ spent p (length (allNodes (setupNow g) rows t e g (commandsAt s m at)))
+      → spent p₀ (length (allNodes (setupNow g) rows t e (ask g t) (commandsAt s m₀ at₀))) ≡ spent p (length (allNodes (setupNow g) rows t e (ask g t) (commandsAt s m at)))
   pub send : (rows : ℕ → Row) → Lent g a rows
-      → spent q₀ (length (allSent (setupNow g) rows t e g (commandsAt s m₀ at₀))) ≡ spent q (length (allSent (setupNow g) rows t e g (commandsAt s m at)))
+      → spent q₀ (length (allSent (setupNow g) rows t e (ask g t) (g .mode) (commandsAt s m₀ at₀))) ≡ spent q (length (allSent (setupNow g) rows t e (ask g t) (g .mode) (commandsAt s m at)))
 
 module _ (g : Settings) (a s : Bytes) (t e m₀ at₀ : ℕ) (p₀ q₀ : Room) where
   pub walked-start : Planable g t s m₀ at₀ → Walked g a s t e m₀ at₀ p₀ q₀ m₀ at₀ p₀ q₀
@@ -112,16 +112,16 @@ module _ (g : Settings) (a s : Bytes) (t e m₀ at₀ : ℕ) (p₀ q₀ : Room) 
         ahead = planable-next g t s m n at k (w .ahead) x f;
         plan = λ rows o.
             let y = is rows o .plan in
-            let N : Bytes = nodesFor (setupNow g) rows t e g (commandOf s h) in
-            let R : Bytes = allNodes (setupNow g) rows t e g (commandsAt s n x) in
-            let c : allNodes (setupNow g) rows t e g (commandsAt s m at) ≡ N ++ R = rw (d, f, commands-more s m n at k) in
+            let N : Bytes = nodesFor (setupNow g) rows t e (ask g t) (commandOf s h) in
+            let R : Bytes = allNodes (setupNow g) rows t e (ask g t) (commandsAt s n x) in
+            let c : allNodes (setupNow g) rows t e (ask g t) (commandsAt s m at) ≡ N ++ R = rw (d, f, commands-more s m n at k) in
             w .plan rows o ∙ ap (λ (b : Bytes). spent p (length b)) c ∙ ap (spent p) (length-append N R) ∙ sym (spent-more p (length N) (length R))
             ∙ ap (λ (b : ℕ). spent (spent p b) (length R)) (sym y);
         send = λ rows o.
             let y = is rows o .send in
-            let N : Bytes = sentFor (setupNow g) rows t e g (commandOf s h) in
-            let R : Bytes = allSent (setupNow g) rows t e g (commandsAt s n x) in
-            let c : allSent (setupNow g) rows t e g (commandsAt s m at) ≡ N ++ R = rw (d, f, commands-more s m n at k) in
+            let N : Bytes = sentFor (setupNow g) rows t e (ask g t) (g .mode) (commandOf s h) in
+            let R : Bytes = allSent (setupNow g) rows t e (ask g t) (g .mode) (commandsAt s n x) in
+            let c : allSent (setupNow g) rows t e (ask g t) (g .mode) (commandsAt s m at) ≡ N ++ R = rw (d, f, commands-more s m n at k) in
             w .send rows o ∙ ap (λ (b : Bytes). spent q (length b)) c ∙ ap (spent q) (length-append N R) ∙ sym (spent-more q (length N) (length R))
             ∙ ap (λ (b : ℕ). spent (spent q b) (length R)) (sym y);
       }
@@ -129,11 +129,11 @@ module _ (g : Settings) (a s : Bytes) (t e m₀ at₀ : ℕ) (p₀ q₀ : Room) 
   -- none is left
   pub walked-end : (m at : ℕ) (p q : Room) → m ≡ 0 → Walked g a s t e m₀ at₀ p₀ q₀ m at p q → (rows : ℕ → Row) → Lent g a rows
       → (p .short || q .short)
-      ≡ (spent p₀ (length (allNodes (setupNow g) rows t e g (commandsAt s m₀ at₀))) .short || spent q₀
-      (length (allSent (setupNow g) rows t e g (commandsAt s m₀ at₀))) .short)
+      ≡ (spent p₀ (length (allNodes (setupNow g) rows t e (ask g t) (commandsAt s m₀ at₀))) .short || spent q₀
+      (length (allSent (setupNow g) rows t e (ask g t) (g .mode) (commandsAt s m₀ at₀))) .short)
   unfolding allNodes allSent
   walked-end m at p q z w rows o =
       let c = commands-none s m at z in
-      let a : spent p (length (allNodes (setupNow g) rows t e g (commandsAt s m at))) ≡ p = rw c (spent-none p 0 refl) in
-      let b : spent q (length (allSent (setupNow g) rows t e g (commandsAt s m at))) ≡ q = rw c (spent-none q 0 refl) in
+      let a : spent p (length (allNodes (setupNow g) rows t e (ask g t) (commandsAt s m at))) ≡ p = rw c (spent-none p 0 refl) in
+      let b : spent q (length (allSent (setupNow g) rows t e (ask g t) (g .mode) (commandsAt s m at))) ≡ q = rw c (spent-none q 0 refl) in
       sym (ap₂ (λ (x : Room) (y : Room). x .short || y .short) (w .plan rows o ∙ a) (w .send rows o ∙ b))

@@ -1,5 +1,6 @@
 // A key looked up, in place, with its counts. specs/Looks.antt says what lookups make of the book, specs/Finds.antt what one of them finds.
 use command_key::CommandKey;
+use config::Now;
 use config::Settings;
 use cursor::Range;
 use shard_lookup::Looked;
@@ -41,15 +42,14 @@ pub fn look_up_key(
     key: Range,
     command: CommandKey,
     g: Settings,
-    clock: u64,
-    epoch: u64,
+    when: Now,
     counts: Statistics,
 ) -> Found
     requires { ⌜ RangeIn (now bytes) key × KeyIn (now bytes) command × Arena g (now arena) ⌝ }
-    ensures { λ r. ⌜ ((w : Wanted) → w .key ≡ rangeBytes (now (bytes .entry)) key → w .command ≡ keyBytes (now (bytes .entry)) command → Finds g clock epoch w (now (arena .entry)) counts (now (arena .exit)) r) ⌝ }
+    ensures { λ r. ⌜ ((w : Wanted) → w .key ≡ rangeBytes (now (bytes .entry)) key → w .command ≡ keyBytes (now (bytes .entry)) command → Finds g (when .clock) (when .epoch) w (now (arena .entry)) counts (now (arena .exit)) r) ⌝ }
 {
     let text = cursor::bytes_in(bytes, key);
-    let looked = sharded_lru::get(arena, g, text, bytes, command, clock, epoch);
+    let looked = sharded_lru::get(arena, g, text, bytes, command, when);
     Found {
         looked: looked,
         counts: counted(counts, looked),

@@ -1,6 +1,7 @@
 // A command's keys looked up, each one's node written to the plan as it is found, and the outcome; after `get_cached_cmd` (cache_manager.rs). Each key is
 // searched once. specs/Prepared.antt says what it comes to.
 use command_key::CommandKey;
+use config::Now;
 use config::Settings;
 use cursor::Head;
 use cursor::Range;
@@ -20,7 +21,7 @@ ghost use Rattle.format.specs.Runs.{encAll};
 ghost use Rattle.call_record.specs.Record.{Command};
 ghost use Rattle.cursor.specs.At.{rangeBytes, RangeIn, ArgsHere, commandOf};
 ghost use Rattle.book.specs.Book.{Row};
-ghost use Rattle.planning.specs.Ask as asks;
+ghost use Rattle.planning.specs.Ask.{ask};
 ghost use Rattle.planning.specs.Outcome.{ignored, item, notCacheable, singleItem, wholeKey, wants};
 ghost use Rattle.planning.specs.Plan.{placeNodes, encNode};
 ghost use Rattle.planning_ask.specs.Asked.{wantedIn, SeveralIn, OnTime};
@@ -56,17 +57,16 @@ fn write_place(
     key: Range,
     expiry: u64,
     g: Settings,
-    clock: u64,
-    epoch: u64,
+    when: Now,
     x: Written,
 ) -> Written
-    requires { ⌜ SeveralIn (now bytes) v × RangeIn (now bytes) key × (length (now bytes) ≤ maxBytes) × Arena g (now arena) × ((rows : ℕ → Row) → Lent g (now arena) rows → x .to + length (placeNode expiry (placeOn (setupNow g) rows clock epoch (wantAt (now bytes) v key))) ≤ length (now plan)) × (x .missing + 1 < 2 ^ 64) ⌝ }
-    ensures { λ r. ⌜ Placed g clock epoch expiry (wantAt (now (bytes .entry)) v key) (now (arena .entry)) (now (plan .entry)) x (now (arena .exit)) (now (plan .exit)) r ⌝ }
+    requires { ⌜ SeveralIn (now bytes) v × RangeIn (now bytes) key × (length (now bytes) ≤ maxBytes) × Arena g (now arena) × ((rows : ℕ → Row) → Lent g (now arena) rows → x .to + length (placeNode expiry (placeOn (setupNow g) rows (when .clock) (when .epoch) (wantAt (now bytes) v key))) ≤ length (now plan)) × (x .missing + 1 < 2 ^ 64) ⌝ }
+    ensures { λ r. ⌜ Placed g (when .clock) (when .epoch) expiry (wantAt (now (bytes .entry)) v key) (now (arena .entry)) (now (plan .entry)) x (now (arena .exit)) (now (plan .exit)) r ⌝ }
 {
     let path = v.path;
     let command = CommandKey::Named(v.json, key, path);
     let before = x.counts;
-    let found = planning_look_up::look_up_key(arena, bytes, key, command, g, clock, epoch, before);
+    let found = planning_look_up::look_up_key(arena, bytes, key, command, g, when, before);
     let counts = found.counts;
     let looked = found.looked;
     match looked {
@@ -94,12 +94,11 @@ fn write_places(
     v: Several,
     expiry: u64,
     g: Settings,
-    clock: u64,
-    epoch: u64,
+    when: Now,
     x: Written,
 ) -> Written
-    requires { ⌜ SeveralIn (now bytes) v × (length (now bytes) ≤ maxBytes) × Arena g (now arena) × ((rows : ℕ → Row) → Lent g (now arena) rows → x .to + length (encAll encNode (placeNodes expiry (placesNow g rows clock epoch (now bytes) v))) ≤ length (now plan)) × (x .missing ≤ maxBytes) ⌝ }
-    ensures { λ r. ⌜ Done g clock epoch expiry (now (bytes .entry)) v (now (arena .entry)) (now (plan .entry)) x (now (arena .exit)) (now (plan .exit)) r ⌝ }
+    requires { ⌜ SeveralIn (now bytes) v × (length (now bytes) ≤ maxBytes) × Arena g (now arena) × ((rows : ℕ → Row) → Lent g (now arena) rows → x .to + length (encAll encNode (placeNodes expiry (placesNow g rows (when .clock) (when .epoch) (now bytes) v))) ≤ length (now plan)) × (x .missing ≤ maxBytes) ⌝ }
+    ensures { λ r. ⌜ Done g (when .clock) (when .epoch) expiry (now (bytes .entry)) v (now (arena .entry)) (now (plan .entry)) x (now (arena .exit)) (now (plan .exit)) r ⌝ }
 {
     let mut k = v.args;
     let mut left = v.keys;
@@ -107,7 +106,7 @@ fn write_places(
     while left > 0 {
         let here = planning_ask::next_key(bytes, k);
         let key = here.key;
-        y = write_place(plan, arena, bytes, v, key, expiry, g, clock, epoch, y);
+        y = write_place(plan, arena, bytes, v, key, expiry, g, when, y);
         k = here.rest;
         left -= 1;
     }
@@ -123,12 +122,11 @@ fn write_several(
     v: Several,
     expiry: u64,
     g: Settings,
-    clock: u64,
-    epoch: u64,
+    when: Now,
     counts: Statistics,
 ) -> Prepared
-    requires { ⌜ SeveralIn (now bytes) v × (length (now bytes) ≤ maxBytes) × Arena g (now arena) × ((rows : ℕ → Row) → Lent g (now arena) rows → to + length (nodesAs (item (severalItem (setupNow g) rows clock epoch (now bytes) v expiry))) ≤ length (now plan)) ⌝ }
-    ensures { λ r. ⌜ Looks g clock epoch (wantedIn (now (bytes .entry)) v) (now (arena .entry)) counts (now (arena .exit)) (r .counts) × ((rows : ℕ → Row) → Lent g (now (arena .entry)) rows → (c : Command) → Prepares g rows clock epoch (now (bytes .entry)) (now (arena .exit)) (now (plan .entry)) to (now (plan .exit)) c (item (severalItem (setupNow g) rows clock epoch (now (bytes .entry)) v expiry)) r) ⌝ }
+    requires { ⌜ SeveralIn (now bytes) v × (length (now bytes) ≤ maxBytes) × Arena g (now arena) × ((rows : ℕ → Row) → Lent g (now arena) rows → to + length (nodesAs (item (severalItem (setupNow g) rows (when .clock) (when .epoch) (now bytes) v expiry))) ≤ length (now plan)) ⌝ }
+    ensures { λ r. ⌜ Looks g (when .clock) (when .epoch) (wantedIn (now (bytes .entry)) v) (now (arena .entry)) counts (now (arena .exit)) (r .counts) × ((rows : ℕ → Row) → Lent g (now (arena .entry)) rows → (c : Command) → Prepares g rows (when .clock) (when .epoch) (now (bytes .entry)) (now (arena .exit)) (now (plan .entry)) to (now (plan .exit)) c (item (severalItem (setupNow g) rows (when .clock) (when .epoch) (now (bytes .entry)) v expiry)) r) ⌝ }
 {
     let start = to + plan_write::NODE_HEAD;
     let first = Written {
@@ -136,7 +134,7 @@ fn write_several(
         missing: 0,
         counts: counts,
     };
-    let x = write_places(plan, arena, bytes, v, expiry, g, clock, epoch, first);
+    let x = write_places(plan, arena, bytes, v, expiry, g, when, first);
     let after = x.counts;
     if x.missing == 0 {
         plan_write::write_bare(plan, to, 2, v.keys as u64);
@@ -172,16 +170,15 @@ fn write_one(
     key: Range,
     expiry: u64,
     g: Settings,
-    clock: u64,
-    epoch: u64,
+    when: Now,
     counts: Statistics,
 ) -> Prepared
-    requires { ⌜ ArgsHere (now bytes) (head .args) × RangeIn (now bytes) key × (length (now bytes) ≤ maxBytes) × Arena g (now arena) × ((rows : ℕ → Row) → Lent g (now arena) rows → to + length (nodesAs (item (singleItem (placeOn (setupNow g) rows clock epoch (wholeKey (commandOf (now bytes) head) (rangeBytes (now bytes) key))) expiry))) ≤ length (now plan)) ⌝ }
-    ensures { λ r. ⌜ Looks g clock epoch (wholeKey (commandOf (now (bytes .entry)) head) (rangeBytes (now (bytes .entry)) key) ∷ []) (now (arena .entry)) counts (now (arena .exit)) (r .counts) × ((rows : ℕ → Row) → Lent g (now (arena .entry)) rows → Prepares g rows clock epoch (now (bytes .entry)) (now (arena .exit)) (now (plan .entry)) to (now (plan .exit)) (commandOf (now (bytes .entry)) head) (item (singleItem (placeOn (setupNow g) rows clock epoch (wholeKey (commandOf (now (bytes .entry)) head) (rangeBytes (now (bytes .entry)) key))) expiry)) r) ⌝ }
+    requires { ⌜ ArgsHere (now bytes) (head .args) × RangeIn (now bytes) key × (length (now bytes) ≤ maxBytes) × Arena g (now arena) × ((rows : ℕ → Row) → Lent g (now arena) rows → to + length (nodesAs (item (singleItem (placeOn (setupNow g) rows (when .clock) (when .epoch) (wholeKey (commandOf (now bytes) head) (rangeBytes (now bytes) key))) expiry))) ≤ length (now plan)) ⌝ }
+    ensures { λ r. ⌜ Looks g (when .clock) (when .epoch) (wholeKey (commandOf (now (bytes .entry)) head) (rangeBytes (now (bytes .entry)) key) ∷ []) (now (arena .entry)) counts (now (arena .exit)) (r .counts) × ((rows : ℕ → Row) → Lent g (now (arena .entry)) rows → Prepares g rows (when .clock) (when .epoch) (now (bytes .entry)) (now (arena .exit)) (now (plan .entry)) to (now (plan .exit)) (commandOf (now (bytes .entry)) head) (item (singleItem (placeOn (setupNow g) rows (when .clock) (when .epoch) (wholeKey (commandOf (now (bytes .entry)) head) (rangeBytes (now (bytes .entry)) key))) expiry)) r) ⌝ }
 {
     let args = head.args;
     let command = CommandKey::Joined(args);
-    let found = planning_look_up::look_up_key(arena, bytes, key, command, g, clock, epoch, counts);
+    let found = planning_look_up::look_up_key(arena, bytes, key, command, g, when, counts);
     let after = found.counts;
     let looked = found.looked;
     match looked {
@@ -220,14 +217,13 @@ pub fn get_cached_cmd(
     bytes: &[u8],
     head: Head,
     g: Settings,
-    clock: u64,
-    epoch: u64,
+    when: Now,
     counts: Statistics,
 ) -> Prepared
-    requires { ⌜ ArgsHere (now bytes) (head .args) × OnTime g clock (commandOf (now bytes) head) × (length (now bytes) ≤ maxBytes) × Arena g (now arena) × ((rows : ℕ → Row) → Lent g (now arena) rows → to + length (nodesAs (outcomeFor (setupNow g) rows clock epoch g (commandOf (now bytes) head))) ≤ length (now plan)) ⌝ }
-    ensures { λ r. ⌜ Looks g clock epoch (wants (commandOf (now (bytes .entry)) head) (asks.ask g clock (commandOf (now (bytes .entry)) head))) (now (arena .entry)) counts (now (arena .exit)) (r .counts) × ((rows : ℕ → Row) → Lent g (now (arena .entry)) rows → Prepares g rows clock epoch (now (bytes .entry)) (now (arena .exit)) (now (plan .entry)) to (now (plan .exit)) (commandOf (now (bytes .entry)) head) (outcomeFor (setupNow g) rows clock epoch g (commandOf (now (bytes .entry)) head)) r) ⌝ }
+    requires { ⌜ ArgsHere (now bytes) (head .args) × OnTime g (when .clock) (commandOf (now bytes) head) × (length (now bytes) ≤ maxBytes) × Arena g (now arena) × ((rows : ℕ → Row) → Lent g (now arena) rows → to + length (nodesAs (outcomeFor (setupNow g) rows (when .clock) (when .epoch) (ask g (when .clock)) (commandOf (now bytes) head))) ≤ length (now plan)) ⌝ }
+    ensures { λ r. ⌜ Looks g (when .clock) (when .epoch) (wants (commandOf (now (bytes .entry)) head) (ask g (when .clock) (commandOf (now (bytes .entry)) head))) (now (arena .entry)) counts (now (arena .exit)) (r .counts) × ((rows : ℕ → Row) → Lent g (now (arena .entry)) rows → Prepares g rows (when .clock) (when .epoch) (now (bytes .entry)) (now (arena .exit)) (now (plan .entry)) to (now (plan .exit)) (commandOf (now (bytes .entry)) head) (outcomeFor (setupNow g) rows (when .clock) (when .epoch) (ask g (when .clock)) (commandOf (now (bytes .entry)) head)) r) ⌝ }
 {
-    match planning_ask::ask(bytes, head, g, clock) {
+    match planning_ask::ask(bytes, head, g, when.clock) {
         Asked::Nothing => Prepared {
             result: CachingResult::Ignored,
             places: to,
@@ -249,8 +245,7 @@ pub fn get_cached_cmd(
             key,
             expiry,
             g,
-            clock,
-            epoch,
+            when,
             counts,
         ),
         Asked::SeveralKeys(v, expiry) => write_several(
@@ -261,8 +256,7 @@ pub fn get_cached_cmd(
             v,
             expiry,
             g,
-            clock,
-            epoch,
+            when,
             counts,
         ),
     }

@@ -17,7 +17,7 @@ use Rattle.command_key.specs.declared.CommandKey.the-variants.{Joined, Named}
 use Rattle.book.specs.Book.{Row, Setup, Book, Answer, lookup, answerTo, effect}
 use Rattle.book.specs.Calls.{Wanted}
 use Rattle.book.specs.Lookups.{dry}
-use Rattle.planning.specs.Ask as asks
+use Rattle.planning.specs.Ask.{Ask, nothing, uncacheable, oneKey, severalKeys}
 use Rattle.planning.specs.Outcome as plan
 use Rattle.planning.specs.Passes.{outcomeOn}
 use Rattle.shard_lookup.specs.Looked.{Told}
@@ -43,9 +43,9 @@ said-dry p bk t e [] = refl
 said-dry p bk t e (w ∷ ws) = ap₂ _∷_ refl (said-dry p bk t e ws)
 
 -- so is a command's outcome
-pub outcome-on : (p : Setup) (bk : Book) (g : Settings) (t e : ℕ) (c : Command) → outcomeOn p bk g t e c ≡ outcomeFor p (bk .rows) t e g c
+pub outcome-on : (p : Setup) (bk : Book) (asks : Command → Ask) (t e : ℕ) (c : Command) → outcomeOn p bk asks t e c ≡ outcomeFor p (bk .rows) t e asks c
 unfolding outcomeOn outcomeFor
-outcome-on p bk g t e c = ap (plan.outcome c (asks.ask g t c)) (said-dry p bk t e (plan.wants c (asks.ask g t c)))
+outcome-on p bk asks t e c = ap (plan.outcome c (asks c)) (said-dry p bk t e (plan.wants c (asks c)))
 
 -- ---- what is told of a key's place
 
@@ -118,22 +118,22 @@ module _ (p : Setup) (rows : ℕ → Row) (t e : ℕ) where
 
   -- ---- the outcome, by what the command asks for
 
-  module _ (g : Settings) (c : Command) where
-    pub outcome-nothing : asks.ask g t c ≡ asks.nothing → outcomeFor p rows t e g c ≡ plan.ignored
+  module _ (asks : Command → Ask) (c : Command) where
+    pub outcome-nothing : asks c ≡ nothing → outcomeFor p rows t e asks c ≡ plan.ignored
     unfolding outcomeFor plan.outcome
     outcome-nothing q = rw q
 
-    pub outcome-uncacheable : asks.ask g t c ≡ asks.uncacheable → outcomeFor p rows t e g c ≡ plan.item plan.notCacheable
+    pub outcome-uncacheable : asks c ≡ uncacheable → outcomeFor p rows t e asks c ≡ plan.item plan.notCacheable
     unfolding outcomeFor plan.outcome
     outcome-uncacheable q = rw q
 
-    pub outcome-one : (k : Bytes) (x : ℕ) → asks.ask g t c ≡ asks.oneKey k x
-        → outcomeFor p rows t e g c ≡ plan.item (plan.singleItem (placeOn p rows t e (plan.wholeKey c k)) x)
+    pub outcome-one : (k : Bytes) (x : ℕ) → asks c ≡ oneKey k x
+        → outcomeFor p rows t e asks c ≡ plan.item (plan.singleItem (placeOn p rows t e (plan.wholeKey c k)) x)
     unfolding outcomeFor plan.outcome plan.wants plan.place saidOn placeOn
     outcome-one k x q = rw q
 
-    pub outcome-several : (s : Bytes) (v : Several) (x : ℕ) → asks.ask g t c ≡ asks.severalKeys (severalName (v .json)) (keysIn s v) (pathIn s v) x
-        → outcomeFor p rows t e g c ≡ plan.item (severalItem p rows t e s v x)
+    pub outcome-several : (s : Bytes) (v : Several) (x : ℕ) → asks c ≡ severalKeys (severalName (v .json)) (keysIn s v) (pathIn s v) x
+        → outcomeFor p rows t e asks c ≡ plan.item (severalItem p rows t e s v x)
     unfolding outcomeFor plan.outcome plan.wants
     outcome-several s v x q = rw (q, places-on)
 
@@ -169,13 +169,13 @@ module _ (p : Setup) (rows : ℕ → Row) (t e : ℕ) where
 
     -- ---- by what the command asks for
 
-    module _ (g : Settings) (c : Command) where
-      pub tells-nothing : asks.ask g t c ≡ asks.nothing → Tells p rows t e s a c (outcomeFor p rows t e g c) Ignored
-      tells-nothing q = record { is = sym (outcome-nothing g c q); inside = tt }
+    module _ (asks : Command → Ask) (c : Command) where
+      pub tells-nothing : asks c ≡ nothing → Tells p rows t e s a c (outcomeFor p rows t e asks c) Ignored
+      tells-nothing q = record { is = sym (outcome-nothing asks c q); inside = tt }
 
-      pub tells-uncacheable : asks.ask g t c ≡ asks.uncacheable → Tells p rows t e s a c (outcomeFor p rows t e g c) (Item NotCacheable)
-      tells-uncacheable q = record { is = sym (outcome-uncacheable g c q); inside = tt }
+      pub tells-uncacheable : asks c ≡ uncacheable → Tells p rows t e s a c (outcomeFor p rows t e asks c) (Item NotCacheable)
+      tells-uncacheable q = record { is = sym (outcome-uncacheable asks c q); inside = tt }
 
-      pub tells-item : (o : plan.PrepCacheItem) (r : PrepCacheItem) → outcomeFor p rows t e g c ≡ plan.item o → TellsItem p rows t e s a c o r
-          → Tells p rows t e s a c (outcomeFor p rows t e g c) (Item r)
+      pub tells-item : (o : plan.PrepCacheItem) (r : PrepCacheItem) → outcomeFor p rows t e asks c ≡ plan.item o → TellsItem p rows t e s a c o r
+          → Tells p rows t e s a c (outcomeFor p rows t e asks c) (Item r)
       tells-item o r q w = record { is = ap plan.item (w .is) ∙ sym q; inside = w .inside }

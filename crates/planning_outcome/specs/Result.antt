@@ -17,7 +17,7 @@ use Rattle.shard_lookup.specs.declared.Looked.{Looked}
 use Rattle.shard_lookup.specs.declared.Looked.the-variants.{Hit, Miss}
 use Rattle.sharded_lru.specs.Lent.{effectIn}
 use Rattle.config.specs.declared.Settings.{Settings}
-use Rattle.planning.specs.Ask.{ask}
+use Rattle.planning.specs.Ask.{Ask}
 use Rattle.planning_ask.specs.Asked.{severalName, pathIn, wantedIn, SeveralIn}
 use Rattle.planning_ask.specs.declared.Several.{Several}
 use Rattle.planning_outcome.specs.declared.Served.{Served}
@@ -54,8 +54,8 @@ module _ (p : Setup) (rows : ℕ → Row) (t e : ℕ) where
       plan.multipleItem (plan.missing (placesOn (wantedIn s v))) (severalName (v .json)) (placesOn (wantedIn s v)) (pathIn s v) x
 
   -- a command's outcome, from the answers on these rows (`outcomeOn` of planning/specs/Passes.antt, on a book: Places.antt, `outcome-on`)
-  unfoldable pub outcomeFor : Settings → Command → plan.CachingResult
-  outcomeFor g c = plan.outcome c (ask g t c) (saidOn (plan.wants c (ask g t c)))
+  unfoldable pub outcomeFor : (Command → Ask) → Command → plan.CachingResult
+  outcomeFor asks c = plan.outcome c (asks c) (saidOn (plan.wants c (asks c)))
 
   -- ---- what an outcome stands for
 

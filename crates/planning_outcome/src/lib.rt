@@ -2,6 +2,7 @@
 // peeked. `planning/specs/Outcome.antt` has the definitions; specs/Result.antt says what an outcome here stands for. It is made where the keys are looked up
 // (crate planning_nodes).
 use command_key::CommandKey;
+use config::Now;
 use config::Settings;
 use cursor::Range;
 use planning_ask::Several;
@@ -47,14 +48,13 @@ pub fn peek_key(
     key: Range,
     arena: &[u8],
     g: Settings,
-    clock: u64,
-    epoch: u64,
+    when: Now,
 ) -> Looked
     requires { ⌜ SeveralIn (now bytes) v × RangeIn (now bytes) key × (length (now bytes) ≤ maxBytes) × Arena g (now arena) ⌝ }
-    ensures { λ r. ⌜ ((rows : ℕ → Row) → Lent g (now (arena .entry)) rows → PlaceTold (now (arena .entry)) (partKey (severalName (v .json)) (pathIn (now (bytes .entry)) v) (rangeBytes (now (bytes .entry)) key)) (placeOn (setupNow g) rows clock epoch (partKey (severalName (v .json)) (pathIn (now (bytes .entry)) v) (rangeBytes (now (bytes .entry)) key))) r) ⌝ }
+    ensures { λ r. ⌜ ((rows : ℕ → Row) → Lent g (now (arena .entry)) rows → PlaceTold (now (arena .entry)) (partKey (severalName (v .json)) (pathIn (now (bytes .entry)) v) (rangeBytes (now (bytes .entry)) key)) (placeOn (setupNow g) rows (when .clock) (when .epoch) (partKey (severalName (v .json)) (pathIn (now (bytes .entry)) v) (rangeBytes (now (bytes .entry)) key))) r) ⌝ }
 {
     let text = cursor::bytes_in(bytes, key);
     let path = v.path;
     let command = CommandKey::Named(v.json, key, path);
-    sharded_lru::peek(arena, g, text, bytes, command, clock, epoch)
+    sharded_lru::peek(arena, g, text, bytes, command, when)
 }

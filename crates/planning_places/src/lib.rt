@@ -2,6 +2,7 @@
 // (caching/cmd.rs). They are read from the nodes of their places in the plan, so that no key is searched for again; or, where every key waits, from the record
 // (specs/Source.antt). What is written of a key is a parameter (specs/Pieces.antt).
 use command_key::CommandKey;
+use config::Now;
 use config::Settings;
 use cursor::Args;
 use cursor::Range;
@@ -35,16 +36,15 @@ fn measure_key(
     key: Range,
     arena: &[u8],
     g: Settings,
-    clock: u64,
-    epoch: u64,
+    when: Now,
     m: Measured,
 ) -> Measured
     requires { ⌜ SeveralIn (now bytes) v × RangeIn (now bytes) key × (length (now bytes) ≤ maxBytes) × Arena g (now arena) × Bounded maxBytes m ⌝ }
-    ensures { λ r. ⌜ ((rows : ℕ → Row) → Lent g (now (arena .entry)) rows → More m (placeAt g rows clock epoch (now (bytes .entry)) v key) r) × Grows m r ⌝ }
+    ensures { λ r. ⌜ ((rows : ℕ → Row) → Lent g (now (arena .entry)) rows → More m (placeAt g rows (when .clock) (when .epoch) (now (bytes .entry)) v key) r) × Grows m r ⌝ }
 {
     let path = v.path;
     let command = CommandKey::Named(v.json, key, path);
-    match planning_outcome::peek_key(bytes, v, key, arena, g, clock, epoch) {
+    match planning_outcome::peek_key(bytes, v, key, arena, g, when) {
         Looked::Hit { from, to } => Measured {
             missing: m.missing,
             nodes: m.nodes + (plan_write::NODE_HEAD + (to - from)),
@@ -62,16 +62,9 @@ fn measure_key(
 }
 
 // What all of them take: each is peeked once.
-pub fn measure(
-    bytes: &[u8],
-    v: Several,
-    arena: &[u8],
-    g: Settings,
-    clock: u64,
-    epoch: u64,
-) -> Measured
+pub fn measure(bytes: &[u8], v: Several, arena: &[u8], g: Settings, when: Now) -> Measured
     requires { ⌜ SeveralIn (now bytes) v × (length (now bytes) ≤ maxBytes) × Arena g (now arena) ⌝ }
-    ensures { λ r. ⌜ ((rows : ℕ → Row) → Lent g (now (arena .entry)) rows → Measures (placesNow g rows clock epoch (now (bytes .entry)) v) r) × Bounded (v .keys) r ⌝ }
+    ensures { λ r. ⌜ ((rows : ℕ → Row) → Lent g (now (arena .entry)) rows → Measures (placesNow g rows (when .clock) (when .epoch) (now (bytes .entry)) v) r) × Bounded (v .keys) r ⌝ }
 {
     let mut k = v.args;
     let mut left = v.keys;
@@ -83,7 +76,7 @@ pub fn measure(
     while left > 0 {
         let here = planning_ask::next_key(bytes, k);
         let key = here.key;
-        m = measure_key(bytes, v, key, arena, g, clock, epoch, m);
+        m = measure_key(bytes, v, key, arena, g, when, m);
         k = here.rest;
         left -= 1;
     }

@@ -35,19 +35,19 @@ module _ (g : Settings) (t e : ℕ) where
   -- for one command
   abbrev pub One : Command → Bytes → Bytes → Bytes → Progress → Bytes → Bytes → Bytes → Progress → Type 0
   One c a d f x a′ d′ f′ x′ =
-      Step g t e (λ rows. nodesFor (setupNow g) rows t e g c) (λ rows. sentFor (setupNow g) rows t e g c)
-      (λ rows. length (sends (g .mode) c (outcomeFor (setupNow g) rows t e g c))) (wants c (ask g t c)) a d f x a′ d′ f′ x′
+      Step g t e (λ rows. nodesFor (setupNow g) rows t e (ask g t) c) (λ rows. sentFor (setupNow g) rows t e (ask g t) (g .mode) c)
+      (λ rows. length (sends (g .mode) c (outcomeFor (setupNow g) rows t e (ask g t) c))) (wants c (ask g t c)) a d f x a′ d′ f′ x′
 
   -- for several
   abbrev pub Does : List Command → Bytes → Bytes → Bytes → Progress → Bytes → Bytes → Bytes → Progress → Type 0
   Does cs a d f x a′ d′ f′ x′ =
-      Step g t e (λ rows. allNodes (setupNow g) rows t e g cs) (λ rows. allSent (setupNow g) rows t e g cs)
-      (λ rows. sentCount (setupNow g) rows t e g cs) (wanted g t cs) a d f x a′ d′ f′ x′
+      Step g t e (λ rows. allNodes (setupNow g) rows t e (ask g t) cs) (λ rows. allSent (setupNow g) rows t e (ask g t) (g .mode) cs)
+      (λ rows. sentCount (setupNow g) rows t e (ask g t) (g .mode) cs) (wanted (ask g t) cs) a d f x a′ d′ f′ x′
 
   -- there is room for what is written for commands
   pub record Room (cs : List Command) (a d f : Bytes) (x : Progress) : Type 0 where
-    pub plan : (rows : ℕ → Row) → Lent g a rows → x .to + length (allNodes (setupNow g) rows t e g cs) ≤ length d
-    pub send : (rows : ℕ → Row) → Lent g a rows → x .from + length (allSent (setupNow g) rows t e g cs) ≤ length f
+    pub plan : (rows : ℕ → Row) → Lent g a rows → x .to + length (allNodes (setupNow g) rows t e (ask g t) cs) ≤ length d
+    pub send : (rows : ℕ → Row) → Lent g a rows → x .from + length (allSent (setupNow g) rows t e (ask g t) (g .mode) cs) ≤ length f
 
   -- for none
   pub does-none : (a d f : Bytes) (x : Progress) → Does [] a d f x a d f x
@@ -78,15 +78,15 @@ module _ (g : Settings) (t e : ℕ) where
     middle : (rows : ℕ → Row) → Lent g a rows → Lent g a₁ (behind rows .rows)
     middle rows h = o .looks (before rows) (record { rows = h; counts = refl }) .rows
 
-    plan-both : (rows : ℕ → Row) → allNodes (setupNow g) rows t e g (c ∷ cs) ≡ nodesFor (setupNow g) rows t e g c
-        ++ allNodes (setupNow g) (behind rows .rows) t e g cs
+    plan-both : (rows : ℕ → Row) → allNodes (setupNow g) rows t e (ask g t) (c ∷ cs) ≡ nodesFor (setupNow g) rows t e (ask g t) c
+        ++ allNodes (setupNow g) (behind rows .rows) t e (ask g t) cs
     unfolding allNodes
-    plan-both rows = ap (λ (z : Bytes). nodesFor (setupNow g) rows t e g c ++ z) (sym (nodes-after (setupNow g) t e g (wants c (ask g t c)) (before rows) cs))
+    plan-both rows = ap (λ (z : Bytes). nodesFor (setupNow g) rows t e (ask g t) c ++ z) (sym (nodes-after (setupNow g) t e g (wants c (ask g t c)) (before rows) cs))
 
-    send-both : (rows : ℕ → Row) → allSent (setupNow g) rows t e g (c ∷ cs) ≡ sentFor (setupNow g) rows t e g c
-        ++ allSent (setupNow g) (behind rows .rows) t e g cs
+    send-both : (rows : ℕ → Row) → allSent (setupNow g) rows t e (ask g t) (g .mode) (c ∷ cs) ≡ sentFor (setupNow g) rows t e (ask g t) (g .mode) c
+        ++ allSent (setupNow g) (behind rows .rows) t e (ask g t) (g .mode) cs
     unfolding allSent
-    send-both rows = ap (λ (z : Bytes). sentFor (setupNow g) rows t e g c ++ z) (sym (sent-after (setupNow g) t e g (wants c (ask g t c)) (before rows) cs))
+    send-both rows = ap (λ (z : Bytes). sentFor (setupNow g) rows t e (ask g t) (g .mode) c ++ z) (sym (sent-after (setupNow g) t e g (wants c (ask g t c)) (before rows) cs))
 
     -- one, and then others
     pub does-more : (a₂ d₂ f₂ : Bytes) (x₂ : Progress) → Does cs a₁ d₁ f₁ x₁ a₂ d₂ f₂ x₂ → Does (c ∷ cs) a d f x a₂ d₂ f₂ x₂
@@ -105,7 +105,7 @@ module _ (g : Settings) (t e : ℕ) where
               let k = count-after (setupNow g) t e g (wants c (ask g t c)) (before rows) cs in
               omega arith;
           looks = λ bk k.
-              subst (λ (b : Book). Keeps g a₂ (x₂ .counts) b) (sym (after-append (wants c (ask g t c)) (wanted g t cs) bk)) (w .looks _ (o .looks bk k));
+              subst (λ (b : Book). Keeps g a₂ (x₂ .counts) b) (sym (after-append (wants c (ask g t c)) (wanted (ask g t) cs) bk)) (w .looks _ (o .looks bk k));
         }
 
     -- there is room for the others then
@@ -116,11 +116,11 @@ module _ (g : Settings) (t e : ℕ) where
         record {
           plan = λ rows k.
               let q : behind R .rows ≡ rows = lent-same (middle R h) k in
-              subst (λ (z : ℕ → Row). x₁ .to + length (allNodes (setupNow g) z t e g cs) ≤ length d₁) q
+              subst (λ (z : ℕ → Row). x₁ .to + length (allNodes (setupNow g) z t e (ask g t) cs) ≤ length d₁) q
               (room-second d d₁ _ _ _ (x .to) (x₁ .to) (plan-both R) (r .plan R h) (o .plan R h));
           send = λ rows k.
               let q : behind R .rows ≡ rows = lent-same (middle R h) k in
-              subst (λ (z : ℕ → Row). x₁ .from + length (allSent (setupNow g) z t e g cs) ≤ length f₁) q
+              subst (λ (z : ℕ → Row). x₁ .from + length (allSent (setupNow g) z t e (ask g t) (g .mode) cs) ≤ length f₁) q
               (room-second f f₁ _ _ _ (x .from) (x₁ .from) (send-both R) (r .send R h) (o .send R h));
         }
 
@@ -130,19 +130,19 @@ module _ (g : Settings) (t e : ℕ) where
         let R : ℕ → Row = w .rows in
         let h = w .lent in (
           wrote-long d d₁ _ (x .to) (x₁ .to)
-              (room-first _ (nodesFor (setupNow g) R t e g c) (allNodes (setupNow g) (behind R .rows) t e g cs) (x .to) (length d) (plan-both R)
+              (room-first _ (nodesFor (setupNow g) R t e (ask g t) c) (allNodes (setupNow g) (behind R .rows) t e (ask g t) cs) (x .to) (length d) (plan-both R)
               (r .plan R h)) (o .plan R h),
           wrote-long f f₁ _ (x .from) (x₁ .from)
-              (room-first _ (sentFor (setupNow g) R t e g c) (allSent (setupNow g) (behind R .rows) t e g cs) (x .from) (length f) (send-both R)
+              (room-first _ (sentFor (setupNow g) R t e (ask g t) (g .mode) c) (allSent (setupNow g) (behind R .rows) t e (ask g t) (g .mode) cs) (x .from) (length f) (send-both R)
               (r .send R h)) (o .send R h),
         )
 
   -- room for the first alone
   pub room-one : (c : Command) (cs : List Command) (a d f : Bytes) (x : Progress) → Room (c ∷ cs) a d f x
-      → ((rows : ℕ → Row) → Lent g a rows → x .to + length (nodesFor (setupNow g) rows t e g c) ≤ length d)
-      × ((rows : ℕ → Row) → Lent g a rows → x .from + length (sentFor (setupNow g) rows t e g c) ≤ length f)
+      → ((rows : ℕ → Row) → Lent g a rows → x .to + length (nodesFor (setupNow g) rows t e (ask g t) c) ≤ length d)
+      × ((rows : ℕ → Row) → Lent g a rows → x .from + length (sentFor (setupNow g) rows t e (ask g t) (g .mode) c) ≤ length f)
   unfolding allNodes allSent
   room-one c cs a d f x r = (
-    λ rows h. room-first _ (nodesFor (setupNow g) rows t e g c) (allNodes (setupNow g) rows t e g cs) (x .to) (length d) refl (r .plan rows h),
-    λ rows h. room-first _ (sentFor (setupNow g) rows t e g c) (allSent (setupNow g) rows t e g cs) (x .from) (length f) refl (r .send rows h),
+    λ rows h. room-first _ (nodesFor (setupNow g) rows t e (ask g t) c) (allNodes (setupNow g) rows t e (ask g t) cs) (x .to) (length d) refl (r .plan rows h),
+    λ rows h. room-first _ (sentFor (setupNow g) rows t e (ask g t) (g .mode) c) (allSent (setupNow g) rows t e (ask g t) (g .mode) cs) (x .from) (length f) refl (r .send rows h),
   )

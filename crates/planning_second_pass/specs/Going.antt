@@ -17,6 +17,7 @@ use Rattle.planning_look_up.specs.Looks.{looks-arena}
 use Rattle.planning_dry_pass.specs.Dry.{Planable, planable-next}
 use Rattle.planning_second_pass.specs.Does.{One, Does, Room, does-none, does-more, room-more, room-one, long-more}
 use Rattle.planning_second_pass.specs.declared.Progress.{Progress}
+use Rattle.planning.specs.Ask.{ask}
 
 module _ (g : Settings) (t e : ℕ) (s : Bytes) (m₀ at₀ : ℕ) (a₀ d₀ f₀ : Bytes) (x₀ : Progress) where
   pub record Going (m at : ℕ) (a d f : Bytes) (x : Progress) : Type 0 where
@@ -36,8 +37,8 @@ module _ (g : Settings) (t e : ℕ) (s : Bytes) (m₀ at₀ : ℕ) (a₀ d₀ f�
 
   -- room for the first command
   pub going-room : (m n at : ℕ) (a d f : Bytes) (x : Progress) (h : Head) → m ≡ n + 1 → h ≡ headAt s at → Going m at a d f x
-      → ((rows : ℕ → Row) → Lent g a rows → x .to + length (nodesFor (setupNow g) rows t e g (commandOf s h)) ≤ length d)
-      × ((rows : ℕ → Row) → Lent g a rows → x .from + length (sentFor (setupNow g) rows t e g (commandOf s h)) ≤ length f)
+      → ((rows : ℕ → Row) → Lent g a rows → x .to + length (nodesFor (setupNow g) rows t e (ask g t) (commandOf s h)) ≤ length d)
+      × ((rows : ℕ → Row) → Lent g a rows → x .from + length (sentFor (setupNow g) rows t e (ask g t) (g .mode) (commandOf s h)) ≤ length f)
   going-room m n at a d f x h q i w =
       let u : commandsAt s m at ≡ commandOf s h ∷ commandsAt s n (commandNext s at) = rw (i, commands-more s m n at q) in
       room-one g t e (commandOf s h) (commandsAt s n (commandNext s at)) a d f x (subst (λ (z : List Command). Room g t e z a d f x) u (w .room))

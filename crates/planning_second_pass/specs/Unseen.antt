@@ -31,25 +31,25 @@ module _ (p : Setup) (t e : ℕ) where
 
   module _ (g : Settings) (ws : List Wanted) (bk : Book) where
     -- a command's outcome
-    outcome-after : (c : Command) → outcomeFor p (afterLookups ws bk .rows) t e g c ≡ outcomeFor p (bk .rows) t e g c
+    outcome-after : (c : Command) → outcomeFor p (afterLookups ws bk .rows) t e (ask g t) c ≡ outcomeFor p (bk .rows) t e (ask g t) c
     unfolding outcomeOn
     outcome-after c =
-        sym (outcome-on p (afterLookups ws bk) g t e c)
+        sym (outcome-on p (afterLookups ws bk) (ask g t) t e c)
         ∙ ap (plan.outcome c (ask g t c)) (dry-after ws bk (plan.wants c (ask g t c)))
-        ∙ outcome-on p bk g t e c
+        ∙ outcome-on p bk (ask g t) t e c
 
     -- so what is written for others
-    pub nodes-after : (cs : List Command) → allNodes p (afterLookups ws bk .rows) t e g cs ≡ allNodes p (bk .rows) t e g cs
+    pub nodes-after : (cs : List Command) → allNodes p (afterLookups ws bk .rows) t e (ask g t) cs ≡ allNodes p (bk .rows) t e (ask g t) cs
     unfolding allNodes
     nodes-after [] = refl
     nodes-after (c ∷ cs) = ap₂ _++_ (ap (λ (r : plan.CachingResult). encAll encNode (nodesOf r)) (outcome-after c)) (nodes-after cs)
 
-    pub sent-after : (cs : List Command) → allSent p (afterLookups ws bk .rows) t e g cs ≡ allSent p (bk .rows) t e g cs
+    pub sent-after : (cs : List Command) → allSent p (afterLookups ws bk .rows) t e (ask g t) (g .mode) cs ≡ allSent p (bk .rows) t e (ask g t) (g .mode) cs
     unfolding allSent
     sent-after [] = refl
     sent-after (c ∷ cs) = ap₂ _++_ (ap (λ (r : plan.CachingResult). sentBytes (sends (g .mode) c r)) (outcome-after c)) (sent-after cs)
 
-    pub count-after : (cs : List Command) → sentCount p (afterLookups ws bk .rows) t e g cs ≡ sentCount p (bk .rows) t e g cs
+    pub count-after : (cs : List Command) → sentCount p (afterLookups ws bk .rows) t e (ask g t) (g .mode) cs ≡ sentCount p (bk .rows) t e (ask g t) (g .mode) cs
     unfolding sentCount
     count-after [] = refl
     count-after (c ∷ cs) = ap₂ _+_ (ap (λ (r : plan.CachingResult). length (sends (g .mode) c r)) (outcome-after c)) (count-after cs)

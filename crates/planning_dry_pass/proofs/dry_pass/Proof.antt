@@ -11,10 +11,10 @@ use Rattle.planning_dry_pass.proofs.dry_pass.Statement.{statement}
 use Rattle.planning_dry_pass.proofs.dry_pass.Tie as tie
 
 abbrev Inv-loop : tie.InvT-loop
-Inv-loop bytes arena g clock epoch at₀ left₀ p₀ q₀ at left p q = laws.Walked g arena bytes clock epoch left₀ at₀ p₀ q₀ left at p q
+Inv-loop bytes arena g when at₀ left₀ p₀ q₀ at left p q = laws.Walked g arena bytes (when .clock) (when .epoch) left₀ at₀ p₀ q₀ left at p q
 
 abbrev μ-loop : tie.MeasureT-loop
-μ-loop bytes arena g clock epoch at₀ left₀ p₀ q₀ at left p q = left
+μ-loop bytes arena g when at₀ left₀ p₀ q₀ at left p q = left
 
 loop-holds : tie.Need-loop-holds Inv-loop μ-loop
 loop-holds c = laws.walked-start _ _ _ _ _ _ _ _ _ (c .before .before .pre .0)

@@ -17,7 +17,7 @@ returns : tie.Need-returns
 returns c =
     let a = c .before .before .before .before .before .args in
     λ rows o.
-    whole-place (setupNow (a .g)) rows (a .clock) (a .epoch) (a .bytes .now) (a .arena .now) (a .head) (a .key) (c .peek .result)
+    whole-place (setupNow (a .g)) rows (a .when .clock) (a .when .epoch) (a .bytes .now) (a .arena .now) (a .head) (a .key) (c .peek .result)
     (rw (c .before .before .bytes-in .ensures) at (c .peek .ensures rows o))
 
 pub peek-one-spec : {M : Type 1} → statement M

@@ -17,21 +17,21 @@ peek-one-requires c κs = search needs
 enum-known-from : tie.Need-enum-known-from
 enum-known-from c = search needs
 
-sub-t15 : tie.Need-sub-t15
+sub-t15 : tie.Need-sub-t14
 sub-t15 c =
     let q = c .before .before .before .before .before .before .before .pre .4 in
     let a = c .before .before .before .before .before .before .before .args in
     let w = wholeKey (commandOf (a .bytes .now) (a .head)) (rangeBytes (a .bytes .now) (a .key)) in
-    let h = laws.told-value (a .arena .now) w (placeOn (setupNow (a .g)) (q .rows) (a .clock) (a .epoch) w)
+    let h = laws.told-value (a .arena .now) w (placeOn (setupNow (a .g)) (q .rows) (a .when .clock) (a .when .epoch) w)
     (c .before .before .before .peek-one .result) _ _ (c .before .from .given .1) (c .before .before .before .peek-one .ensures (q .rows) (q .lent)) in
     h .0
 
-add-t16 : tie.Need-add-t16
+add-t16 : tie.Need-add-t15
 add-t16 c =
     let q = c .before .before .before .before .before .before .before .pre .4 in
     let a = c .before .before .before .before .before .before .before .args in
     let w = wholeKey (commandOf (a .bytes .now) (a .head)) (rangeBytes (a .bytes .now) (a .key)) in
-    let h = laws.told-value (a .arena .now) w (placeOn (setupNow (a .g)) (q .rows) (a .clock) (a .epoch) w)
+    let h = laws.told-value (a .arena .now) w (placeOn (setupNow (a .g)) (q .rows) (a .when .clock) (a .when .epoch) w)
     (c .before .before .before .peek-one .result) _ _ (c .before .from .given .1) (c .before .before .before .peek-one .ensures (q .rows) (q .lent)) in
     let e = h .1 in
     let m = q .lent .largest in
@@ -57,7 +57,7 @@ opt-in-len-requires c κs = search needs
 single-len-requires : tie.Need-single-len-requires
 single-len-requires c κs = search needs
 
-add-t21 : tie.Need-add-t21
+add-t21 : tie.Need-add-t20
 add-t21 c = search needs
 
 returns : tie.Need-returns
@@ -65,7 +65,7 @@ returns c =
     let a = c .before .before .before .before .before .before .before .args in
     let w = wholeKey (commandOf (a .bytes .now) (a .head)) (rangeBytes (a .bytes .now) (a .key)) in
     λ rows o x.
-    let h = laws.told-value (a .arena .now) w (placeOn (setupNow (a .g)) rows (a .clock) (a .epoch) w) (c .before .before .before .peek-one .result) _ _
+    let h = laws.told-value (a .arena .now) w (placeOn (setupNow (a .g)) rows (a .when .clock) (a .when .epoch) w) (c .before .before .before .peek-one .result) _ _
     (c .before .from .given .1) (c .before .before .before .peek-one .ensures rows o) in
     laws.size-hit (a .g .mode) _ _ x _ _ (h .2) (h .3)
 
@@ -74,7 +74,7 @@ returns-2 c =
     let a = c .before .before .before .before .before .before .before .before .before .before .args in
     let w = wholeKey (commandOf (a .bytes .now) (a .head)) (rangeBytes (a .bytes .now) (a .key)) in
     λ rows o x.
-    let e = laws.told-waits (a .arena .now) w (placeOn (setupNow (a .g)) rows (a .clock) (a .epoch) w)
+    let e = laws.told-waits (a .arena .now) w (placeOn (setupNow (a .g)) rows (a .when .clock) (a .when .epoch) w)
     (c .before .before .before .before .before .before .peek-one .result) _ (c .before .before .before .before .enum-told .given .1)
     (c .before .before .before .before .before .before .peek-one .ensures rows o) in
     laws.size-miss (a .g .mode) (a .bytes .now) (a .head) (a .key) _ x _ _ _ _ e (c .before .before .before .bytes-in .ensures)

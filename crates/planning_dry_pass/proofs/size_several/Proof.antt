@@ -14,7 +14,7 @@ use Rattle.planning_dry_pass.proofs.size_several.Tie as tie
 measure-requires : tie.Need-measure-requires
 measure-requires c κs = search needs
 
-add-t11 : tie.Need-add-t11
+add-t11 : tie.Need-add-t10
 add-t11 c =
     let p = c .before .before .before .before .before .before .pre in
     let f = keys-few _ _ (p .0) in
@@ -25,10 +25,10 @@ add-t11 c =
     let z = b .keys in
     omega arith
 
-mul-t12 : tie.Need-mul-t12
+mul-t12 : tie.Need-mul-t11
 mul-t12 c = search needs
 
-add-t13 : tie.Need-add-t13
+add-t13 : tie.Need-add-t12
 add-t13 c =
     let p = c .before .before .before .before .before .before .pre in
     let f = keys-few _ _ (p .0) in
@@ -54,7 +54,7 @@ several-len-requires c κs =
     let e = c .before .before .if1 .left in
     (p .0, l, omega arith, record { number = omega arith; nodes = omega arith; keys = omega arith })
 
-add-t16 : tie.Need-add-t16
+add-t16 : tie.Need-add-t15
 add-t16 c = search needs
 
 returns : tie.Need-returns
@@ -77,10 +77,10 @@ returns-2 c =
     let e = c .before .before .before .if1 .left in
     λ rows o d x.
     let m = c .before .before .before .before .before .measure .ensures .0 rows o in
-    let ks = keysOf (missing (placesNow (a .g) rows (a .clock) (a .epoch) (a .bytes .now) (a .v))) in
+    let ks = keysOf (missing (placesNow (a .g) rows (a .when .clock) (a .when .epoch) (a .bytes .now) (a .v))) in
     laws.size-missing (a .g .mode) d (a .bytes .now) (a .v) _ x (c .before .before .before .before .before .measure .result) m (p .0) e (omega arith) _ _
     (c .before .opt-in-len .ensures .0)
-    (c .several-len .ensures .0 ks (m .number ∙ sym (keys-length (missing (placesNow (a .g) rows (a .clock) (a .epoch) (a .bytes .now) (a .v))))) (m .keys))
+    (c .several-len .ensures .0 ks (m .number ∙ sym (keys-length (missing (placesNow (a .g) rows (a .when .clock) (a .when .epoch) (a .bytes .now) (a .v))))) (m .keys))
 
 pub size-several-spec : {M : Type 1} → statement M
 size-several-spec =

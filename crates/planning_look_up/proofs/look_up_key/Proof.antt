@@ -28,7 +28,7 @@ returns c = λ w p q.
           laws.looks-one _ _ _ w _ _ _ _ _ _ (c .before .before .before .get .result) k q (c .counted .ensures)
           (λ rows l. let h = c .before .before .before .get .ensures rows l in (h .0, h .1));
       told =
-          λ rows l. told-place (setupNow (a .g)) rows (a .clock) (a .epoch) _ w _ _ (c .before .before .before .get .result) k q
+          λ rows l. told-place (setupNow (a .g)) rows (a .when .clock) (a .when .epoch) _ w _ _ (c .before .before .before .get .result) k q
           (c .before .before .before .get .ensures rows l .1);
     }
 

@@ -24,12 +24,12 @@ write-bare-requires : tie.Need-write-bare-requires
 write-bare-requires c κs =
     let a = c .before .before .before .before .before .before .before .args in
     let p = c .before .before .before .before .before .before .before .pre in
-    let w = subst (λ (r : Asked). (askedOf (a .bytes .now) r ≡ ask (a .g) (a .clock) (commandOf (a .bytes .now) (a .head))) × AskedIn (a .bytes .now) r)
+    let w = subst (λ (r : Asked). (askedOf (a .bytes .now) r ≡ ask (a .g) (a .when .clock) (commandOf (a .bytes .now) (a .head))) × AskedIn (a .bytes .now) r)
     (c .before .enum-told .given .1) (c .before .before .before .ask .ensures) in
     let q = p .3 in
     let rows = q .rows in
     room-is _ _ _ _ (ap nodesAs
-    (places.outcome-nothing (setupNow (a .g)) rows (a .clock) (a .epoch) (a .g) (commandOf (a .bytes .now) (a .head)) (sym (w .0))) ∙ nodes-ignored)
+    (places.outcome-nothing (setupNow (a .g)) rows (a .when .clock) (a .when .epoch) (ask (a .g) (a .when .clock)) (commandOf (a .bytes .now) (a .head)) (sym (w .0))) ∙ nodes-ignored)
     (p .4 rows (q .lent))
 
 enum-told-2 : tie.Need-enum-told-2
@@ -39,12 +39,12 @@ write-bare-requires-2 : tie.Need-write-bare-requires-2
 write-bare-requires-2 c κs =
     let a = c .before .before .before .before .before .before .before .args in
     let p = c .before .before .before .before .before .before .before .pre in
-    let w = subst (λ (r : Asked). (askedOf (a .bytes .now) r ≡ ask (a .g) (a .clock) (commandOf (a .bytes .now) (a .head))) × AskedIn (a .bytes .now) r)
+    let w = subst (λ (r : Asked). (askedOf (a .bytes .now) r ≡ ask (a .g) (a .when .clock) (commandOf (a .bytes .now) (a .head))) × AskedIn (a .bytes .now) r)
     (c .before .enum-told2 .given .1) (c .before .before .before .ask .ensures) in
     let q = p .3 in
     let rows = q .rows in
     room-is _ _ _ _ (ap nodesAs
-    (places.outcome-uncacheable (setupNow (a .g)) rows (a .clock) (a .epoch) (a .g) (commandOf (a .bytes .now) (a .head)) (sym (w .0)))
+    (places.outcome-uncacheable (setupNow (a .g)) rows (a .when .clock) (a .when .epoch) (ask (a .g) (a .when .clock)) (commandOf (a .bytes .now) (a .head)) (sym (w .0)))
     ∙ nodes-not-cacheable) (p .4 rows (q .lent))
 
 enum-known-key : tie.Need-enum-known-key
@@ -54,14 +54,14 @@ write-one-requires : tie.Need-write-one-requires
 write-one-requires c κs =
     let a = c .before .before .before .before .before .before .before .before .before .args in
     let p = c .before .before .before .before .before .before .before .before .before .pre in
-    let w = subst (λ (r : Asked). (askedOf (a .bytes .now) r ≡ ask (a .g) (a .clock) (commandOf (a .bytes .now) (a .head))) × AskedIn (a .bytes .now) r)
+    let w = subst (λ (r : Asked). (askedOf (a .bytes .now) r ≡ ask (a .g) (a .when .clock) (commandOf (a .bytes .now) (a .head))) × AskedIn (a .bytes .now) r)
     (c .before .before .before .key .given .1) (c .before .before .before .before .before .ask .ensures) in (
       p .0,
       w .1,
       p .2,
       p .3,
       λ rows o. room-is _ _ _ _
-          (ap nodesAs (places.outcome-one (setupNow (a .g)) rows (a .clock) (a .epoch) (a .g) (commandOf (a .bytes .now) (a .head)) _ _ (sym (w .0))))
+          (ap nodesAs (places.outcome-one (setupNow (a .g)) rows (a .when .clock) (a .when .epoch) (ask (a .g) (a .when .clock)) (commandOf (a .bytes .now) (a .head)) _ _ (sym (w .0))))
           (p .4 rows o),
     )
 
@@ -72,13 +72,13 @@ write-several-requires : tie.Need-write-several-requires
 write-several-requires c κs =
     let a = c .before .before .before .before .before .before .before .before .before .args in
     let p = c .before .before .before .before .before .before .before .before .before .pre in
-    let w = subst (λ (r : Asked). (askedOf (a .bytes .now) r ≡ ask (a .g) (a .clock) (commandOf (a .bytes .now) (a .head))) × AskedIn (a .bytes .now) r)
+    let w = subst (λ (r : Asked). (askedOf (a .bytes .now) r ≡ ask (a .g) (a .when .clock) (commandOf (a .bytes .now) (a .head))) × AskedIn (a .bytes .now) r)
     (c .before .before .before .v .given .1) (c .before .before .before .before .before .ask .ensures) in (
       w .1,
       p .2,
       p .3,
       λ rows o. room-is _ _ _ _
-          (ap nodesAs (places.outcome-several (setupNow (a .g)) rows (a .clock) (a .epoch) (a .g) (commandOf (a .bytes .now) (a .head)) (a .bytes .now)
+          (ap nodesAs (places.outcome-several (setupNow (a .g)) rows (a .when .clock) (a .when .epoch) (ask (a .g) (a .when .clock)) (commandOf (a .bytes .now) (a .head)) (a .bytes .now)
           (c .before .before .before .v .given .0 .0) _ (sym (w .0)))) (p .4 rows o),
     )
 
@@ -89,13 +89,13 @@ returns : tie.Need-returns
 returns c =
     let a = c .before .before .before .before .before .before .before .before .before .before .args in
     let p = c .before .before .before .before .before .before .before .before .before .before .pre in
-    let w = subst (λ (r : Asked). (askedOf (a .bytes .now) r ≡ ask (a .g) (a .clock) (commandOf (a .bytes .now) (a .head))) × AskedIn (a .bytes .now) r)
+    let w = subst (λ (r : Asked). (askedOf (a .bytes .now) r ≡ ask (a .g) (a .when .clock) (commandOf (a .bytes .now) (a .head))) × AskedIn (a .bytes .now) r)
     (c .before .before .before .before .enum-told .given .1) (c .before .before .before .before .before .before .ask .ensures) in
     let d = commandOf (a .bytes .now) (a .head) in (
-      looks.wants-nothing (a .g) (a .clock) (a .epoch) d (a .arena .now) (a .arena .now) (a .counts) (a .counts) (sym (w .0)),
+      looks.wants-nothing (a .g) (a .when .clock) (a .when .epoch) d (a .arena .now) (a .arena .now) (a .counts) (a .counts) (sym (w .0)),
       λ rows o.
           laws.prepares-as _ _ _ _ _ _ _ _ _ _ _ _ _
-          (places.outcome-nothing (setupNow (a .g)) rows (a .clock) (a .epoch) (a .g) (commandOf (a .bytes .now) (a .head)) (sym (w .0)))
+          (places.outcome-nothing (setupNow (a .g)) rows (a .when .clock) (a .when .epoch) (ask (a .g) (a .when .clock)) (commandOf (a .bytes .now) (a .head)) (sym (w .0)))
           (laws.prepares-ignored _ _ _ _ _ _ _ _ _ _ _ _ (c .before .before .write-bare .ensures)),
     )
 
@@ -106,13 +106,13 @@ returns-2 : tie.Need-returns-2
 returns-2 c =
     let a = c .before .before .before .before .before .before .before .before .before .before .args in
     let p = c .before .before .before .before .before .before .before .before .before .before .pre in
-    let w = subst (λ (r : Asked). (askedOf (a .bytes .now) r ≡ ask (a .g) (a .clock) (commandOf (a .bytes .now) (a .head))) × AskedIn (a .bytes .now) r)
+    let w = subst (λ (r : Asked). (askedOf (a .bytes .now) r ≡ ask (a .g) (a .when .clock) (commandOf (a .bytes .now) (a .head))) × AskedIn (a .bytes .now) r)
     (c .before .before .before .before .enum-told2 .given .1) (c .before .before .before .before .before .before .ask .ensures) in
     let d = commandOf (a .bytes .now) (a .head) in (
-      looks.wants-uncacheable (a .g) (a .clock) (a .epoch) d (a .arena .now) (a .arena .now) (a .counts) (a .counts) (sym (w .0)),
+      looks.wants-uncacheable (a .g) (a .when .clock) (a .when .epoch) d (a .arena .now) (a .arena .now) (a .counts) (a .counts) (sym (w .0)),
       λ rows o.
           laws.prepares-as _ _ _ _ _ _ _ _ _ _ _ _ _
-          (places.outcome-uncacheable (setupNow (a .g)) rows (a .clock) (a .epoch) (a .g) (commandOf (a .bytes .now) (a .head)) (sym (w .0)))
+          (places.outcome-uncacheable (setupNow (a .g)) rows (a .when .clock) (a .when .epoch) (ask (a .g) (a .when .clock)) (commandOf (a .bytes .now) (a .head)) (sym (w .0)))
           (laws.prepares-not-cacheable _ _ _ _ _ _ _ _ _ _ _ _ (c .before .before .write-bare2 .ensures)),
     )
 
@@ -126,15 +126,15 @@ returns-3 : tie.Need-returns-3
 returns-3 c =
     let a = c .before .before .before .before .before .before .before .before .before .before .before .before .before .before .args in
     let p = c .before .before .before .before .before .before .before .before .before .before .before .before .before .before .pre in
-    let w = subst (λ (r : Asked). (askedOf (a .bytes .now) r ≡ ask (a .g) (a .clock) (commandOf (a .bytes .now) (a .head))) × AskedIn (a .bytes .now) r)
+    let w = subst (λ (r : Asked). (askedOf (a .bytes .now) r ≡ ask (a .g) (a .when .clock) (commandOf (a .bytes .now) (a .head))) × AskedIn (a .bytes .now) r)
     (c .before .before .before .before .before .before .before .before .key .given .1)
     (c .before .before .before .before .before .before .before .before .before .before .ask .ensures) in
     let d = commandOf (a .bytes .now) (a .head) in
     let r = c .before .before .before .before .write-one .ensures in (
-      looks.wants-one (a .g) (a .clock) (a .epoch) d (a .arena .now) _ (a .counts) _ _ _ (sym (w .0)) (r .0),
+      looks.wants-one (a .g) (a .when .clock) (a .when .epoch) d (a .arena .now) _ (a .counts) _ _ _ (sym (w .0)) (r .0),
       λ rows o.
           laws.prepares-as _ _ _ _ _ _ _ _ _ _ _ _ _
-          (places.outcome-one (setupNow (a .g)) rows (a .clock) (a .epoch) (a .g) (commandOf (a .bytes .now) (a .head)) _ _ (sym (w .0))) (r .1 rows o),
+          (places.outcome-one (setupNow (a .g)) rows (a .when .clock) (a .when .epoch) (ask (a .g) (a .when .clock)) (commandOf (a .bytes .now) (a .head)) _ _ (sym (w .0))) (r .1 rows o),
     )
 
 same-length-5 : tie.Need-same-length-5
@@ -147,16 +147,16 @@ returns-4 : tie.Need-returns-4
 returns-4 c =
     let a = c .before .before .before .before .before .before .before .before .before .before .before .before .before .before .args in
     let p = c .before .before .before .before .before .before .before .before .before .before .before .before .before .before .pre in
-    let w = subst (λ (r : Asked). (askedOf (a .bytes .now) r ≡ ask (a .g) (a .clock) (commandOf (a .bytes .now) (a .head))) × AskedIn (a .bytes .now) r)
+    let w = subst (λ (r : Asked). (askedOf (a .bytes .now) r ≡ ask (a .g) (a .when .clock) (commandOf (a .bytes .now) (a .head))) × AskedIn (a .bytes .now) r)
     (c .before .before .before .before .before .before .before .before .v .given .1)
     (c .before .before .before .before .before .before .before .before .before .before .ask .ensures) in
     let d = commandOf (a .bytes .now) (a .head) in
     let r = c .before .before .before .before .write-several .ensures in (
-      looks.wants-several (a .g) (a .clock) (a .epoch) d (a .arena .now) _ (a .counts) _ (a .bytes .now)
+      looks.wants-several (a .g) (a .when .clock) (a .when .epoch) d (a .arena .now) _ (a .counts) _ (a .bytes .now)
           (c .before .before .before .before .before .before .before .before .v .given .0 .0) _ (sym (w .0)) (r .0),
       λ rows o.
           laws.prepares-as _ _ _ _ _ _ _ _ _ _ _ _ _
-          (places.outcome-several (setupNow (a .g)) rows (a .clock) (a .epoch) (a .g) (commandOf (a .bytes .now) (a .head)) (a .bytes .now)
+          (places.outcome-several (setupNow (a .g)) rows (a .when .clock) (a .when .epoch) (ask (a .g) (a .when .clock)) (commandOf (a .bytes .now) (a .head)) (a .bytes .now)
           (c .before .before .before .before .before .before .before .before .v .given .0 .0) _ (sym (w .0))) (r .1 rows o d),
     )
 

@@ -63,7 +63,7 @@ write-served-requires c κs =
     (whole-key (a .bytes .now) (a .head) (rangeBytes (a .bytes .now) (a .key))) in
     let h = found-hit _ _ _ _ _ _ _ _ f (p .3) _ _ (c .before .before .before .before .looked .given .1) in
     let r = p .3 in (
-      room-is _ _ _ _ (laws.one-filled (a .g) (r .rows) (a .clock) (a .epoch) (a .expiry) (a .bytes .now) (a .head) (a .key) _ (h .is (r .rows) (r .lent)))
+      room-is _ _ _ _ (laws.one-filled (a .g) (r .rows) (a .when .clock) (a .when .epoch) (a .expiry) (a .bytes .now) (a .head) (a .key) _ (h .is (r .rows) (r .lent)))
           (p .4 (r .rows) (r .lent)),
       h .short,
     )
@@ -90,7 +90,7 @@ write-missing-requires c κs =
       omega arith,
       m,
       room-is _ _ _ _
-          (laws.one-waiting (a .g) (r .rows) (a .clock) (a .epoch) (a .expiry) (a .bytes .now) (a .head) (a .key) _ _ q (c .before .bytes-in .ensures) refl)
+          (laws.one-waiting (a .g) (r .rows) (a .when .clock) (a .when .epoch) (a .expiry) (a .bytes .now) (a .head) (a .key) _ _ q (c .before .bytes-in .ensures) refl)
           (p .4 (r .rows) (r .lent)),
     )
 
@@ -111,7 +111,7 @@ returns c =
     let h = found-hit _ _ _ _ _ _ _ _ f (p .3) _ _ (c .before .before .before .before .before .before .before .looked .given .1) in (
       f .looks,
       λ rows o.
-          laws.prepares-hit (a .g) rows (a .clock) (a .epoch) (a .expiry) (a .bytes .now) (a .head) (a .key) _ _ (a .to) _ _ _ _ _ (h .order) (h .inside)
+          laws.prepares-hit (a .g) rows (a .when .clock) (a .when .epoch) (a .expiry) (a .bytes .now) (a .head) (a .key) _ _ (a .to) _ _ _ _ _ (h .order) (h .inside)
           (h .is rows o) (c .before .before .write-served .ensures),
     )
 
@@ -130,7 +130,7 @@ returns-2 c =
     (whole-key (a .bytes .now) (a .head) (rangeBytes (a .bytes .now) (a .key))) in (
       f .looks,
       λ rows o.
-          laws.prepares-miss (a .g) rows (a .clock) (a .epoch) (a .expiry) (a .bytes .now) (a .head) (a .key) _ _ (a .to) _ _ _
+          laws.prepares-miss (a .g) rows (a .when .clock) (a .when .epoch) (a .expiry) (a .bytes .now) (a .head) (a .key) _ _ (a .to) _ _ _
           (c .before .before .before .before .before .enum-told .given .0 .0) _ _ (p .1)
           (found-miss _ _ _ _ _ _ _ _ f _ (c .before .before .before .before .before .enum-told .given .1) rows o)
           (c .before .before .before .before .bytes-in .ensures) refl (c .before .before .write-missing .ensures),

@@ -79,7 +79,7 @@ write-missing-requires c κs =
           (part-key (a .bytes .now) (a .v) (a .key) (p .0))) (p .4 (r .rows) (r .lent)),
     )
 
-add-t33 : tie.Need-add-t33
+add-t33 : tie.Need-add-t32
 add-t33 c =
     let p = c .before .before .before .before .before .before .before .before .before .before .before .before .before .before .before .before .before .before .pre .5 in
     omega arith

@@ -8,11 +8,11 @@ use Rattle.planning_nodes.proofs.write_places.Statement.{statement}
 use Rattle.planning_nodes.proofs.write_places.Tie as tie
 
 abbrev Inv-loop : tie.InvT-loop
-Inv-loop plan₀ arena₀ bytes v expiry g clock epoch k₀ left₀ y₀ plan arena k left y =
-    laws.Writing g clock epoch expiry bytes v arena₀ plan₀ y₀ k left arena plan y
+Inv-loop plan₀ arena₀ bytes v expiry g when k₀ left₀ y₀ plan arena k left y =
+    laws.Writing g (when .clock) (when .epoch) expiry bytes v arena₀ plan₀ y₀ k left arena plan y
 
 abbrev μ-loop : tie.MeasureT-loop
-μ-loop plan₀ arena₀ bytes v expiry g clock epoch k₀ left₀ y₀ plan arena k left y = left
+μ-loop plan₀ arena₀ bytes v expiry g when k₀ left₀ y₀ plan arena k left y = left
 
 loop-holds : tie.Need-loop-holds Inv-loop μ-loop
 loop-holds c = let p = c .before .before .before .before .pre in laws.writing-start _ _ _ _ _ _ _ _ _ (p .0) (p .2) (p .3)

@@ -14,7 +14,7 @@ add-start c =
     let a = c .before .before .before .args in
     let p = c .before .before .before .pre in
     let q = p .2 in
-    let b = laws.several-least (a .expiry) (placesNow (a .g) (q .rows) (a .clock) (a .epoch) (a .bytes .now) (a .v)) (severalName (a .v .json))
+    let b = laws.several-least (a .expiry) (placesNow (a .g) (q .rows) (a .when .clock) (a .when .epoch) (a .bytes .now) (a .v)) (severalName (a .v .json))
     (pathIn (a .bytes .now) (a .v)) in
     let r = p .3 (q .rows) (q .lent) in
     omega arith
@@ -27,7 +27,7 @@ write-places-requires c κs =
       p .1,
       p .2,
       λ rows o.
-          let b = laws.several-least (a .expiry) (placesNow (a .g) rows (a .clock) (a .epoch) (a .bytes .now) (a .v)) (severalName (a .v .json))
+          let b = laws.several-least (a .expiry) (placesNow (a .g) rows (a .when .clock) (a .when .epoch) (a .bytes .now) (a .v)) (severalName (a .v .json))
           (pathIn (a .bytes .now) (a .v)) in
           let r = p .3 rows o in
           omega arith,
@@ -39,7 +39,7 @@ write-bare-requires c κs =
     let a = c .before .before .before .before .before .before .before .before .before .before .before .before .before .before .args in
     let p = c .before .before .before .before .before .before .before .before .before .before .before .before .before .before .pre in
     let q = p .2 in
-    let b = laws.several-least (a .expiry) (placesNow (a .g) (q .rows) (a .clock) (a .epoch) (a .bytes .now) (a .v)) (severalName (a .v .json))
+    let b = laws.several-least (a .expiry) (placesNow (a .g) (q .rows) (a .when .clock) (a .when .epoch) (a .bytes .now) (a .v)) (severalName (a .v .json))
     (pathIn (a .bytes .now) (a .v)) in
     let r = p .3 (q .rows) (q .lent) in
     let l = length-node 2 [] [] (a .v .keys) in
@@ -51,7 +51,7 @@ write-bare-requires-2 c κs =
     let a = c .before .before .before .before .before .before .before .before .before .before .before .before .before .before .args in
     let p = c .before .before .before .before .before .before .before .before .before .before .before .before .before .before .pre in
     let q = p .2 in
-    let b = laws.several-least (a .expiry) (placesNow (a .g) (q .rows) (a .clock) (a .epoch) (a .bytes .now) (a .v)) (severalName (a .v .json))
+    let b = laws.several-least (a .expiry) (placesNow (a .g) (q .rows) (a .when .clock) (a .when .epoch) (a .bytes .now) (a .v)) (severalName (a .v .json))
     (pathIn (a .bytes .now) (a .v)) in
     let r = p .3 (q .rows) (q .lent) in
     let l = length-node 4 [] [] (a .v .keys) in
@@ -67,7 +67,7 @@ write-bare-requires-3 c κs =
     let rows = q .rows in
     let o = q .lent in
     let m = y .number rows o in
-    laws.prepares-room (a .g) rows (a .clock) (a .epoch) (a .expiry) (a .bytes .now) (a .v) (p .0) (a .bytes .now) _ _ _ (a .to) _ _ (a .counts)
+    laws.prepares-room (a .g) rows (a .when .clock) (a .when .epoch) (a .expiry) (a .bytes .now) (a .v) (p .0) (a .bytes .now) _ _ _ (a .to) _ _ (a .counts)
     (p .3 rows o) (y .wrote rows o) (omega arith) (c .before .before .before .before .before .if1 .left)
     (c .before .before .before .write-bare2 .ensures .1)
 
@@ -85,7 +85,7 @@ returns c =
       y .looks,
       λ rows o d.
           let m = y .number rows o in
-          laws.prepares-served (a .g) rows (a .clock) (a .epoch) (a .expiry) (a .bytes .now) (a .v) (p .0) _ _ _ _ (a .to) _ _ _ (p .3 rows o)
+          laws.prepares-served (a .g) rows (a .when .clock) (a .when .epoch) (a .expiry) (a .bytes .now) (a .v) (p .0) _ _ _ _ (a .to) _ _ _ (p .3 rows o)
           (y .wrote rows o) (omega arith) d (c .before .before .before .before .if1 .taken) (c .before .before .write-bare .ensures .1),
     )
 
@@ -103,7 +103,7 @@ returns-2 c =
       y .looks,
       λ rows o d.
           let m = y .number rows o in
-          laws.prepares-missing (a .g) rows (a .clock) (a .epoch) (a .expiry) (a .bytes .now) (a .v) (p .0) _ _ _ _ (a .to) _ _ _ (p .3 rows o)
+          laws.prepares-missing (a .g) rows (a .when .clock) (a .when .epoch) (a .expiry) (a .bytes .now) (a .v) (p .0) _ _ _ _ (a .to) _ _ _ (p .3 rows o)
           (y .wrote rows o) (omega arith) (c .before .before .before .before .before .before .before .before .if1 .left)
           (c .before .before .before .before .before .before .write-bare2 .ensures .1) d _ _ (c .before .before .write-bare3 .ensures)
           (c .before .before .before .before .before .before .before .before .before .before .before .before .before .before .before .before .before .before .before .before .before .fits .expiry .fits)

@@ -19,7 +19,7 @@ peek-requires c κs = (
 returns : tie.Need-returns
 returns c = λ rows o.
     let a = c .before .before .before .before .before .args in
-    laws.part-place (setupNow (a .g)) rows (a .clock) (a .epoch) (a .bytes .now) (a .arena .now) (a .v) (a .key) (c .peek .result)
+    laws.part-place (setupNow (a .g)) rows (a .when .clock) (a .when .epoch) (a .bytes .now) (a .arena .now) (a .v) (a .key) (c .peek .result)
     (c .before .before .before .before .before .pre .0) (rw (c .before .before .bytes-in .ensures) at (c .peek .ensures rows o))
 
 pub peek-key-spec : {M : Type 1} → statement M

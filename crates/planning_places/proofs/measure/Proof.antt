@@ -8,10 +8,10 @@ use Rattle.planning_places.proofs.measure.Statement.{statement}
 use Rattle.planning_places.proofs.measure.Tie as tie
 
 abbrev Inv-loop : tie.InvT-loop
-Inv-loop bytes v arena g clock epoch k₀ left₀ m₀ k left m = laws.Measuring g arena bytes v clock epoch k₀ left₀ k left m
+Inv-loop bytes v arena g when k₀ left₀ m₀ k left m = laws.Measuring g arena bytes v (when .clock) (when .epoch) k₀ left₀ k left m
 
 abbrev μ-loop : tie.MeasureT-loop
-μ-loop bytes v arena g clock epoch k₀ left₀ m₀ k left m = left
+μ-loop bytes v arena g when k₀ left₀ m₀ k left m = left
 
 loop-holds : tie.Need-loop-holds Inv-loop μ-loop
 loop-holds c = laws.measuring-start _ _ _ _ _ _ (c .before .before .before .pre .0)

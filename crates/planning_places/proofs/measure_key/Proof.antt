@@ -15,32 +15,32 @@ peek-key-requires c κs = search needs
 enum-known-from : tie.Need-enum-known-from
 enum-known-from c = search needs
 
-sub-t16 : tie.Need-sub-t16
+sub-t16 : tie.Need-sub-t15
 sub-t16 c =
     let r = c .before .before .before .before .before .before .before .pre .3 in
     let a = c .before .before .before .before .before .before .before .args in
     let h = told-hit (a .arena .now) (wantAt (a .bytes .now) (a .v) (a .key))
-    (placeAt (a .g) (r .rows) (a .clock) (a .epoch) (a .bytes .now) (a .v) (a .key)) (c .before .before .before .peek-key .result) _ _
+    (placeAt (a .g) (r .rows) (a .when .clock) (a .when .epoch) (a .bytes .now) (a .v) (a .key)) (c .before .before .before .peek-key .result) _ _
     (c .before .from .given .1) (c .before .before .before .peek-key .ensures (r .rows) (r .lent)) in
     h .0
 
-add-t17 : tie.Need-add-t17
+add-t17 : tie.Need-add-t16
 add-t17 c =
     let r = c .before .before .before .before .before .before .before .pre .3 in
     let a = c .before .before .before .before .before .before .before .args in
     let h = told-hit (a .arena .now) (wantAt (a .bytes .now) (a .v) (a .key))
-    (placeAt (a .g) (r .rows) (a .clock) (a .epoch) (a .bytes .now) (a .v) (a .key)) (c .before .before .before .peek-key .result) _ _
+    (placeAt (a .g) (r .rows) (a .when .clock) (a .when .epoch) (a .bytes .now) (a .v) (a .key)) (c .before .before .before .peek-key .result) _ _
     (c .before .from .given .1) (c .before .before .before .peek-key .ensures (r .rows) (r .lent)) in
     let e = h .1 in
     let m = r .lent .largest in
     omega arith
 
-add-t18 : tie.Need-add-t18
+add-t18 : tie.Need-add-t17
 add-t18 c =
     let r = c .before .before .before .before .before .before .before .before .pre .3 in
     let a = c .before .before .before .before .before .before .before .before .args in
     let h = told-hit (a .arena .now) (wantAt (a .bytes .now) (a .v) (a .key))
-    (placeAt (a .g) (r .rows) (a .clock) (a .epoch) (a .bytes .now) (a .v) (a .key)) (c .before .before .before .before .peek-key .result) _ _
+    (placeAt (a .g) (r .rows) (a .when .clock) (a .when .epoch) (a .bytes .now) (a .v) (a .key)) (c .before .before .before .before .peek-key .result) _ _
     (c .before .before .from .given .1) (c .before .before .before .before .peek-key .ensures (r .rows) (r .lent)) in
     let e = h .1 in
     let m = r .lent .largest in
@@ -53,7 +53,7 @@ enum-told c = search needs
 bytes-in-requires : tie.Need-bytes-in-requires
 bytes-in-requires c κs = search needs
 
-add-t19 : tie.Need-add-t19
+add-t19 : tie.Need-add-t18
 add-t19 c = let b = c .before .before .before .before .before .before .before .before .pre .4 .number in omega arith
 
 missing-len-requires : tie.Need-missing-len-requires
@@ -64,7 +64,7 @@ missing-len-requires c κs =
     let m = p .2 in
     (laws.part-in (a .bytes .now) (a .v) (a .key) (p .0) (p .1) m, omega arith, m)
 
-add-t21 : tie.Need-add-t21
+add-t21 : tie.Need-add-t20
 add-t21 c =
     let p = c .before .before .before .before .before .before .before .before .before .before .pre in
     let a = c .before .before .before .before .before .before .before .before .before .before .args in
@@ -81,7 +81,7 @@ bulklen-requires c κs =
     let m = c .before .before .before .before .before .before .before .before .before .before .pre .2 in
     omega arith
 
-add-t24 : tie.Need-add-t24
+add-t24 : tie.Need-add-t23
 add-t24 c =
     let p = c .before .before .before .before .before .before .before .before .before .before .before .before .pre in
     let a = c .before .before .before .before .before .before .before .before .before .before .before .before .args in
@@ -95,13 +95,13 @@ returns c =
     let q = c .before .before .before .before .before .before .before .before .pre .3 in
     let a = c .before .before .before .before .before .before .before .before .args in
     let h = told-hit (a .arena .now) (wantAt (a .bytes .now) (a .v) (a .key))
-    (placeAt (a .g) (q .rows) (a .clock) (a .epoch) (a .bytes .now) (a .v) (a .key)) (c .before .before .before .before .peek-key .result) _ _
+    (placeAt (a .g) (q .rows) (a .when .clock) (a .when .epoch) (a .bytes .now) (a .v) (a .key)) (c .before .before .before .before .peek-key .result) _ _
     (c .before .before .from .given .1) (c .before .before .before .before .peek-key .ensures (q .rows) (q .lent)) in
     let e = h .1 in
     let m = q .lent .largest in (
       λ rows l.
           let k = told-hit (a .arena .now) (wantAt (a .bytes .now) (a .v) (a .key))
-          (placeAt (a .g) rows (a .clock) (a .epoch) (a .bytes .now) (a .v) (a .key)) (c .before .before .before .before .peek-key .result) _ _
+          (placeAt (a .g) rows (a .when .clock) (a .when .epoch) (a .bytes .now) (a .v) (a .key)) (c .before .before .before .before .peek-key .result) _ _
           (c .before .before .from .given .1) (c .before .before .before .before .peek-key .ensures rows l) in
           laws.more-filled (a .m) _ _ _ (k .2) (k .3),
       record { number = omega arith; nodes = omega arith; keys = omega arith },
@@ -118,7 +118,7 @@ returns-2 c =
       λ rows l.
           laws.more-waiting (a .bytes .now) (a .v) (a .key) (p .0) (p .1) _ (c .before .before .before .before .before .bytes-in .ensures) _ _
           (c .before .before .before .missing-len .ensures) (c .before .bulklen .ensures) (a .m) _
-          (told-miss (a .arena .now) (wantAt (a .bytes .now) (a .v) (a .key)) (placeAt (a .g) rows (a .clock) (a .epoch) (a .bytes .now) (a .v) (a .key))
+          (told-miss (a .arena .now) (wantAt (a .bytes .now) (a .v) (a .key)) (placeAt (a .g) rows (a .when .clock) (a .when .epoch) (a .bytes .now) (a .v) (a .key))
           (c .before .before .before .before .before .before .before .before .peek-key .result) _
           (c .before .before .before .before .before .before .enum-told .given .1)
           (c .before .before .before .before .before .before .before .before .peek-key .ensures rows l)),

@@ -28,7 +28,7 @@ sent-count-requires c κs =
     let y = c .before .before .before .before .before .before .before .before .before .get-cached-cmd .ensures in
     laws.prepared-count (a .g .mode) _ _ _ _ _ _ _ _ _ (a .head) _ _ (w .1) (y .1 (q .rows) (q .lent)) .1
 
-add-t26 : tie.Need-add-t26
+add-t26 : tie.Need-add-t25
 add-t26 c =
     let w = c .before .before .before .before .before .before .before .before .before .before .before .before .before .before .before .before .before .before .before .before .pre .5 in
     let n = c .before .before .sent-count .ensures .1 in

@@ -11,11 +11,11 @@ use Rattle.planning_second_pass.proofs.plan_commands.Statement.{stateme
 use Rattle.planning_second_pass.proofs.plan_commands.Tie as tie
 
 abbrev Inv-loop : tie.InvT-loop
-Inv-loop arena₀ plan₀ send₀ bytes g clock epoch at₀ left₀ y₀ arena plan send at left y =
-    laws.Going g clock epoch bytes left₀ at₀ arena₀ plan₀ send₀ y₀ left at arena plan send y
+Inv-loop arena₀ plan₀ send₀ bytes g when at₀ left₀ y₀ arena plan send at left y =
+    laws.Going g (when .clock) (when .epoch) bytes left₀ at₀ arena₀ plan₀ send₀ y₀ left at arena plan send y
 
 abbrev μ-loop : tie.MeasureT-loop
-μ-loop arena₀ plan₀ send₀ bytes g clock epoch at₀ left₀ y₀ arena plan send at left y = left
+μ-loop arena₀ plan₀ send₀ bytes g when at₀ left₀ y₀ arena plan send at left y = left
 
 loop-holds : tie.Need-loop-holds Inv-loop μ-loop
 loop-holds c = let w = c .before .before .before .before .pre in laws.going-start _ _ _ _ _ _ _ _ _ _ (w .0) (w .2) (w .3)
