@@ -43,10 +43,10 @@ unfolding nth
 nth-add next b zero a = let e : b ≡ b + 0 = omega arith in ap (λ (i : ℕ). nth next i a) e
 nth-add next b (suc t) a = let e : suc (b + t) ≡ b + suc t = omega arith in ap next (nth-add next b t a) ∙ ap (λ (i : ℕ). nth next i a) e
 
--- all of n things are left at the start
-pub left-all : (next : ℕ → ℕ) (first n : ℕ) → first ≡ nth next (n - n) first
+-- where none was walked, the first stands
+pub nth-none : (next : ℕ → ℕ) (first k : ℕ) → 0 ≡ k → first ≡ nth next k first
 unfolding nth
-left-all next first n = let e : n - n ≡ 0 = omega arith in ap (λ (i : ℕ). nth next i first) (sym e)
+nth-none next first k e = ap (λ (i : ℕ). nth next i first) e
 
 module _ (h f : ℕ) (s : Bytes) (first n left at m : ℕ) (l : left ≤ n) (p : at ≡ nth (nextIn h f s) (n - left) first) where
   -- the t-th thing of what is left

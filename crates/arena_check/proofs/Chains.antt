@@ -9,9 +9,8 @@ use lib.Seq.{getD-set-same, getD-set-other}
 use lib.Dec.{eqb, ltb}
 use borrow.Author.Tests.{eqb-true, eqb-false, ltb-true, ltb-false}
 use Rattle.buffer.specs.Cases.{byTest}
-use Rattle.buffer.specs.Same.{Bytes, same, same-eq}
+use Rattle.buffer.specs.Same.{Bytes, same, unequal-same}
 use Rattle.buffer.specs.Field.{read32}
-use Rattle.arena_check.specs.Home.{markOf, marks}
 use Rattle.arena_check.specs.Walk.{nth, before}
 use Rattle.arena_check.specs.Check.{keyIn, nextIn}
 use Rattle.arena_check.specs.Chain.{Stand, keysFrom, Apart, Twice, Among, Latest, Chains, Linked, Tables}
@@ -74,23 +73,24 @@ module _ (key : ℕ → Bytes) where
   pub twice-now : (n i w : ℕ) → Among key true w (key i) → w ≤ i → i < n → Twice key n
   twice-now n i w x l h = let b = x .1 in record { one = x .0; other = i; order = omega arith; below = h; equal = x .2 }
 
-  -- ---- a chain is followed
+-- ---- a chain is followed
 
+module _ (mark : Bytes → ℕ) (key : ℕ → Bytes) where
   -- of the first k those from c on do not have the key x, and the one before has its mark
   pub record Left (x : Bytes) (k c : ℕ) : Type 0 where
     pub low : c ≤ k
     pub seen : (t : ℕ) → c ≤ t → t < k → same (key t) x ≡ false
-    pub its : 0 < c → markOf (key (c - 1)) ≡ markOf x
+    pub its : 0 < c → mark (key (c - 1)) ≡ mark x
 
   -- a key of another mark is another
-  other-mark : (x : Bytes) (t m : ℕ) → m ≡ markOf x → (markOf (key t) ≡ m → ⊥) → same (key t) x ≡ false
-  other-mark x t m e f = byTest (same (key t) x) (λ q. absurd (f (ap markOf (same-eq (key t) x q) ∙ sym e))) (λ q. q)
+  other-mark : (x : Bytes) (t m : ℕ) → m ≡ mark x → (mark (key t) ≡ m → ⊥) → same (key t) x ≡ false
+  other-mark x t m e f = unequal-same (key t) x (λ q. f (ap mark q ∙ sym e))
 
-  pub left-start : (x : Bytes) (k c : ℕ) → Latest key (markOf x) c k → Left x k c
-  left-start x k c l = record { low = l .low; seen = λ t p q. other-mark x t (markOf x) refl (l .none t p q); its = l .its }
+  pub left-start : (x : Bytes) (k c : ℕ) → Latest mark key (mark x) c k → Left x k c
+  left-start x k c l = record { low = l .low; seen = λ t p q. other-mark x t (mark x) refl (l .none t p q); its = l .its }
 
   -- the one before had another key
-  pub left-next : (x : Bytes) (k c q : ℕ) → Left x k c → 0 < c → Latest key (markOf (key (c - 1))) q (c - 1) → same (key (c - 1)) x ≡ false → Left x k q
+  pub left-next : (x : Bytes) (k c q : ℕ) → Left x k c → 0 < c → Latest mark key (mark (key (c - 1))) q (c - 1) → same (key (c - 1)) x ≡ false → Left x k q
   left-next x k c q l h w e =
       let a = l .low in
       let b = w .low in
@@ -98,7 +98,7 @@ module _ (key : ℕ → Bytes) where
         low = omega arith;
         seen = λ t p r.
             byTest (ltb t (c - 1))
-            (λ z. other-mark x t (markOf (key (c - 1))) (l .its h) (w .none t p (ltb-true t (c - 1) z)))
+            (λ z. other-mark x t (mark (key (c - 1))) (l .its h) (w .none t p (ltb-true t (c - 1) z)))
             (λ z.
             byTest (eqb t (c - 1))
             (λ y. subst (λ (i : ℕ). same (key i) x ≡ false) (sym (eqb-true t (c - 1) y)) e)
@@ -123,33 +123,39 @@ pub followed : (h : ℕ) (s : Bytes) (place prev : List ℕ) (last c p : ℕ) �
 followed h s place prev last c p w a b e = subst (λ (i : ℕ). i + h + read32 s i ≤ length s) (sym e) (w .inside (c - 1) (omega arith))
 
 -- and its key, as it was compared
-pub compared : (key keyAt : ℕ → Bytes) (place prev : List ℕ) (k c p : ℕ) (x : Bytes) (r : Bool) → Chains key keyAt place prev k → 0 < c → c ≤ k
-    → p ≡ getD place (c - 1) 0 → same (keyAt p) x ≡ r → same (key (c - 1)) x ≡ r
-compared key keyAt place prev k c p x r w a b e q =
+pub compared : (mark : Bytes → ℕ) (key keyAt : ℕ → Bytes) (place prev : List ℕ) (k c p : ℕ) (x : Bytes) (r : Bool)
+    → Chains mark key keyAt place prev k → 0 < c → c ≤ k → p ≡ getD place (c - 1) 0 → same (keyAt p) x ≡ r → same (key (c - 1)) x ≡ r
+compared mark key keyAt place prev k c p x r w a b e q =
     ap (λ (z : Bytes). same z x) (sym (w .keyed (c - 1) (omega arith)) ∙ ap keyAt (sym e)) ∙ q
 
 -- ---- chains are made
 
 -- tables of zeros
-pub tables-clear : (m k : ℕ) → m ≤ k → Tables m (replicate marks 0) (replicate k 0) (replicate k 0)
-tables-clear m k h =
+pub tables-clear : (top m k : ℕ) → m ≤ k → Tables top m (replicate (top + 1) 0) (replicate k 0) (replicate k 0)
+tables-clear top m k h =
+    let a : length (replicate {A = ℕ} (top + 1) 0) ≡ top + 1 = length-replicate {A = ℕ} (top + 1) 0 in
     let l : length (replicate {A = ℕ} k 0) ≡ k = length-replicate {A = ℕ} k 0 in
-    record { marked = length-replicate {A = ℕ} marks 0; none = λ v q. getD-replicate {A = ℕ} marks v 0 0 q; linked = omega arith; placed = omega arith }
+    record {
+      marked = omega arith;
+      none = λ v q. getD-replicate {A = ℕ} (top + 1) v 0 0 (omega arith);
+      linked = omega arith;
+      placed = omega arith;
+    }
 
-module _ (keyAt : ℕ → Bytes) (next : ℕ → ℕ) (first : ℕ) where
+module _ (mark : Bytes → ℕ) (top : ℕ) (keyAt : ℕ → Bytes) (next : ℕ → ℕ) (first : ℕ) where
   abbrev key : ℕ → Bytes
   key t = keyOf keyAt next first t
 
   -- the first i of m things are chained, and the latest of each mark is known
   pub record Chaining (m : ℕ) (last prev place : List ℕ) (i : ℕ) : Type 0 where
-    pub marked : length last ≡ marks
+    pub marked : top < length last
     pub linked : m ≤ length prev
     pub placed : m ≤ length place
     pub places : (t : ℕ) → t < i → getD place t 0 ≡ nth next t first
-    pub links : (t : ℕ) → t < i → Latest key (markOf (key t)) (getD prev t 0) t
-    pub latest : (m : ℕ) → m < marks → Latest key m (getD last m 0) i
+    pub links : (t : ℕ) → t < i → Latest mark key (mark (key t)) (getD prev t 0) t
+    pub latest : (v : ℕ) → v ≤ top → Latest mark key v (getD last v 0) i
 
-  pub chaining-none : (m : ℕ) (last prev place : List ℕ) → Tables m last prev place → Chaining m last prev place 0
+  pub chaining-none : (m : ℕ) (last prev place : List ℕ) → Tables top m last prev place → Chaining m last prev place 0
   chaining-none m last prev place w =
       record {
         marked = w .marked;
@@ -163,18 +169,18 @@ module _ (keyAt : ℕ → Bytes) (next : ℕ → ℕ) (first : ℕ) where
       }
 
   module _ (size : ℕ) (last prev place : List ℕ) (i : ℕ) (w : Chaining size last prev place i) where
-    pub chains : Chains key keyAt place prev i
+    pub chains : Chains mark key keyAt place prev i
     chains = record { keyed = λ t h. ap keyAt (w .places t h); links = w .links }
 
     -- one thing more, with the mark m
-    pub chaining-more : (at m : ℕ) → i < size → at ≡ nth next i first → m ≡ markOf (key i) → m < marks
+    pub chaining-more : (at m : ℕ) → i < size → at ≡ nth next i first → m ≡ mark (key i) → m ≤ top
         → Chaining size (set last m (i + 1)) (set prev i (getD last m 0)) (set place i at) (i + 1)
     chaining-more at m h p e l =
         let a = w .marked in
         let b = w .linked in
         let c = w .placed in
         record {
-          marked = length-set last m (i + 1) ∙ a;
+          marked = let z = length-set last m (i + 1) in omega arith;
           linked = let z = length-set prev i (getD last m 0) in omega arith;
           placed = let z = length-set place i at in omega arith;
           places = λ t q.
@@ -186,50 +192,50 @@ module _ (keyAt : ℕ → Bytes) (next : ℕ → ℕ) (first : ℕ) where
           links = λ t q.
               byTest (eqb t i)
               (λ z.
-              subst (λ (j : ℕ). Latest key (markOf (key j)) (getD (set prev i (getD last m 0)) j 0) j) (sym (eqb-true t i z))
-              (subst (λ (v : ℕ). Latest key (markOf (key i)) v i) (sym (getD-set-same prev i (getD last m 0) 0 (omega arith)))
-              (subst (λ (v : ℕ). Latest key v (getD last m 0) i) e (w .latest m l))))
+              subst (λ (j : ℕ). Latest mark key (mark (key j)) (getD (set prev i (getD last m 0)) j 0) j) (sym (eqb-true t i z))
+              (subst (λ (v : ℕ). Latest mark key (mark (key i)) v i) (sym (getD-set-same prev i (getD last m 0) 0 (omega arith)))
+              (subst (λ (v : ℕ). Latest mark key v (getD last m 0) i) e (w .latest m l))))
               (λ z.
-              subst (λ (v : ℕ). Latest key (markOf (key t)) v t) (sym (getD-set-other prev i t (getD last m 0) 0 (eqb-false t i z)))
+              subst (λ (v : ℕ). Latest mark key (mark (key t)) v t) (sym (getD-set-other prev i t (getD last m 0) 0 (eqb-false t i z)))
               (w .links t (earlier t q (eqb-false t i z))));
           latest = λ v q.
               byTest (eqb v m)
               (λ z.
-              subst (λ (j : ℕ). Latest key j (getD (set last m (i + 1)) j 0) (i + 1)) (sym (eqb-true v m z))
-              (subst (λ (u : ℕ). Latest key m u (i + 1)) (sym (getD-set-same last m (i + 1) 0 (omega arith))) (newest m e)))
+              subst (λ (j : ℕ). Latest mark key j (getD (set last m (i + 1)) j 0) (i + 1)) (sym (eqb-true v m z))
+              (subst (λ (u : ℕ). Latest mark key m u (i + 1)) (sym (getD-set-same last m (i + 1) 0 (omega arith))) (newest m e)))
               (λ z.
-              subst (λ (u : ℕ). Latest key v u (i + 1)) (sym (getD-set-other last m v (i + 1) 0 (eqb-false v m z)))
+              subst (λ (u : ℕ). Latest mark key v u (i + 1)) (sym (getD-set-other last m v (i + 1) 0 (eqb-false v m z)))
               (older m v e (eqb-false v m z) (w .latest v q)));
         }
       where
         earlier : (t : ℕ) → t < i + 1 → (t ≡ i → ⊥) → t < i
         earlier t q f = omega (arith, f)
 
-        newest : (m : ℕ) → m ≡ markOf (key i) → Latest key m (i + 1) (i + 1)
+        newest : (m : ℕ) → m ≡ mark (key i) → Latest mark key m (i + 1) (i + 1)
         newest m e =
             record {
               low = omega arith;
               none = λ t p q. absurd (omega arith);
-              its = λ p. let z : i + 1 - 1 ≡ i = omega arith in ap (λ (j : ℕ). markOf (key j)) z ∙ sym e;
+              its = λ p. let z : i + 1 - 1 ≡ i = omega arith in ap (λ (j : ℕ). mark (key j)) z ∙ sym e;
             }
 
-        older : (m v : ℕ) → m ≡ markOf (key i) → (v ≡ m → ⊥) → Latest key v (getD last v 0) i → Latest key v (getD last v 0) (i + 1)
+        older : (m v : ℕ) → m ≡ mark (key i) → (v ≡ m → ⊥) → Latest mark key v (getD last v 0) i → Latest mark key v (getD last v 0) (i + 1)
         older m v e f o =
             let a = o .low in
             record {
               low = omega arith;
               none = λ t p q y.
                   byTest (eqb t i)
-                  (λ z. f (sym y ∙ ap (λ (j : ℕ). markOf (key j)) (eqb-true t i z) ∙ sym e))
+                  (λ z. f (sym y ∙ ap (λ (j : ℕ). mark (key j)) (eqb-true t i z) ∙ sym e))
                   (λ z. o .none t p (earlier t q (eqb-false t i z)) y);
               its = o .its;
             }
 
 -- chains of things within the bytes can be followed
-pub chaining-linked : (h f : ℕ) (s : Bytes) (first n size : ℕ) (last prev place : List ℕ) (i m q : ℕ)
-    → Chaining (keyIn h s) (nextIn h f s) first size last prev place i → ((k : ℕ) → k < n → nextIn h f s (nth (nextIn h f s) k first) ≤ length s)
-    → i ≤ n → i ≤ size → size ≤ 4096 → m < marks → q ≡ getD last m 0 → Linked h s place prev q
-chaining-linked h f s first n size last prev place i m q w g l v u b e =
+pub chaining-linked : (mark : Bytes → ℕ) (top h f : ℕ) (s : Bytes) (first n size : ℕ) (last prev place : List ℕ) (i m q : ℕ)
+    → Chaining mark top (keyIn h s) (nextIn h f s) first size last prev place i → ((k : ℕ) → k < n → nextIn h f s (nth (nextIn h f s) k first) ≤ length s)
+    → i ≤ n → i ≤ size → size ≤ 4096 → m ≤ top → q ≡ getD last m 0 → Linked h s place prev q
+chaining-linked mark top h f s first n size last prev place i m q w g l v u b e =
     let o = w .latest m b .low in
     let y = w .placed in
     let z = w .linked in
@@ -245,14 +251,16 @@ chaining-linked h f s first n size last prev place i m q w g l v u b e =
     }
 
 -- what was found in the chain of the i-th thing's mark says whether its key is among the first k
-pub chain-says : (h f : ℕ) (s : Bytes) (first size : ℕ) (last prev place : List ℕ) (k i at mark q : ℕ) (r b : Bool)
-    → Chaining (keyIn h s) (nextIn h f s) first size last prev place k → at ≡ nth (nextIn h f s) i first → mark ≡ markOf (keyIn h s at) → mark < marks
-    → q ≡ getD last mark 0
-    → ((key : ℕ → Bytes) (n : ℕ) → Chains key (keyIn h s) place prev n → Latest key (markOf (keyIn h s at)) q n → Among key r n (keyIn h s at))
+pub chain-says : (mark : Bytes → ℕ) (top h f : ℕ) (s : Bytes) (first size : ℕ) (last prev place : List ℕ) (k i at m q : ℕ) (r b : Bool)
+    → Chaining mark top (keyIn h s) (nextIn h f s) first size last prev place k → at ≡ nth (nextIn h f s) i first → m ≡ mark (keyIn h s at) → m ≤ top
+    → q ≡ getD last m 0
+    → ((mark : Bytes → ℕ) (key : ℕ → Bytes) (n : ℕ) → Chains mark key (keyIn h s) place prev n → Latest mark key (mark (keyIn h s at)) q n
+    → Among key r n (keyIn h s at))
     → r ≡ b → Among (keysFrom h f s first) b k (keysFrom h f s first i)
-chain-says h f s first size last prev place k i at mark q r b w p e l z g y =
-    let o : Latest (keysFrom h f s first) (markOf (keyIn h s at)) q k =
-    subst (λ (v : ℕ). Latest (keysFrom h f s first) v q k) e (subst (λ (v : ℕ). Latest (keysFrom h f s first) mark v k) (sym z) (w .latest mark l)) in
-    let c = chains (keyIn h s) (nextIn h f s) first size last prev place k w in
+chain-says mark top h f s first size last prev place k i at m q r b w p e l z g y =
+    let o : Latest mark (keysFrom h f s first) (mark (keyIn h s at)) q k =
+    subst (λ (v : ℕ). Latest mark (keysFrom h f s first) v q k) e
+    (subst (λ (v : ℕ). Latest mark (keysFrom h f s first) m v k) (sym z) (w .latest m l)) in
+    let c = chains mark top (keyIn h s) (nextIn h f s) first size last prev place k w in
     subst (λ (j : ℕ). Among (keysFrom h f s first) b k (keyIn h s j)) p
-    (subst (λ (t : Bool). Among (keysFrom h f s first) t k (keyIn h s at)) y (g (keysFrom h f s first) k c o))
+    (subst (λ (t : Bool). Among (keysFrom h f s first) t k (keyIn h s at)) y (g mark (keysFrom h f s first) k c o))

@@ -1,14 +1,15 @@
 -- What a key's mark is made of, by the words that were read: one law for each path of the code. Assumes nothing.
 use mathlib.Core.Path.{_≡_, ap, ap₂, _∙_}
-use Prim.Native.Nat.{ℕ, _+_, _-_, _/_, _%_, _≤_, _<_}
+use Prim.Native.Nat.{ℕ, _+_, _-_, _/_, _≤_, _<_}
 use native.Mathlib.Omega.{arith}
+use lib.Bits.{bitAnd, and-le-r}
 use lib.ListN.{length, take, drop}
 use borrow.Author.Tests.{le-leb, lt-leb}
 use Rattle.buffer.specs.Same.{Bytes}
 use Rattle.buffer.specs.Field.{read32, read64}
 use Rattle.buffer.specs.Part.{part}
 use Rattle.siphash.specs.Sip.{sipHash13}
-use Rattle.arena_check.specs.Home.{mixed, endsMixed, wholeMixed, markedBy, markOf, marks}
+use Rattle.arena_check.specs.Home.{mixed, endsMixed, wholeMixed, markedBy, markOf}
 use Rattle.arena_check.specs.Check.{keyIn}
 
 module _ (k : Bytes) where
@@ -39,10 +40,10 @@ module _ (k : Bytes) where
   whole-read a b w x y o p q r e = e ∙ ap₂ mixed (q ∙ ap₂ mixed o p) r
 
 -- the mark of a key, by the length that was read
-pub mark-read : (s : Bytes) (h at k r : ℕ) → k ≡ read32 s at → r ≡ markedBy (take (at + h + k - (at + h)) (drop (at + h) s))
-    → (r / 65536 % 2048 ≡ markOf (keyIn h s at)) × (r / 65536 % 2048 < marks)
-unfolding part
-mark-read s h at k r a e =
+pub mark-read : (s : Bytes) (h top at k r : ℕ) → k ≡ read32 s at → r ≡ markedBy (take (at + h + k - (at + h)) (drop (at + h) s))
+    → (bitAnd (r / 65536) top ≡ markOf top (keyIn h s at)) × (bitAnd (r / 65536) top ≤ top)
+unfolding part markOf
+mark-read s h top at k r a e =
     let n : at + h + k - (at + h) ≡ k = omega arith in
     let w : r ≡ markedBy (keyIn h s at) = rw (n, a) at e in
-    (ap (λ (i : ℕ). i / 65536 % 2048) w, omega arith)
+    (ap (λ (i : ℕ). bitAnd (i / 65536) top) w, and-le-r (r / 65536) top)

@@ -7,7 +7,6 @@ use mathlib.Core.List.{List}
 use lib.ListN.{length, getD}
 use Rattle.buffer.specs.Same.{Bytes, same}
 use Rattle.buffer.specs.Field.{read32}
-use Rattle.arena_check.specs.Home.{markOf, marks}
 use Rattle.arena_check.specs.Walk.{nth}
 use Rattle.arena_check.specs.Check.{keyIn, nextIn}
 
@@ -43,16 +42,18 @@ module _ (key : ℕ → Bytes) where
   Among true k x = (t : ℕ) × (t < k) × (same (key t) x ≡ true)
   Among false k x = (t : ℕ) → t < k → same (key t) x ≡ false
 
+-- a key's mark is whatever `mark` says: keys that are the same have the same mark
+module _ (mark : Bytes → ℕ) (key : ℕ → Bytes) where
   -- q numbers, from 1 on, the latest of the first k that has the mark m; it is 0 where none has
   pub record Latest (m q k : ℕ) : Type 0 where
     pub low : q ≤ k
-    pub none : (t : ℕ) → q ≤ t → t < k → markOf (key t) ≡ m → ⊥
-    pub its : 0 < q → markOf (key (q - 1)) ≡ m
+    pub none : (t : ℕ) → q ≤ t → t < k → mark (key t) ≡ m → ⊥
+    pub its : 0 < q → mark (key (q - 1)) ≡ m
 
   -- the first k are chained: each has its key at its place, and is linked to the latest before it that has its mark
   pub record Chains (keyAt : ℕ → Bytes) (place prev : List ℕ) (k : ℕ) : Type 0 where
     pub keyed : (t : ℕ) → t < k → keyAt (getD place t 0) ≡ key t
-    pub links : (t : ℕ) → t < k → Latest (markOf (key t)) (getD prev t 0) t
+    pub links : (t : ℕ) → t < k → Latest (mark (key t)) (getD prev t 0) t
 
 -- the first c can be followed: links lead back, and places are within the bytes
 pub record Linked (h : ℕ) (s : Bytes) (place prev : List ℕ) (c : ℕ) : Type 0 where
@@ -62,10 +63,10 @@ pub record Linked (h : ℕ) (s : Bytes) (place prev : List ℕ) (c : ℕ) : Type
   pub back : (t : ℕ) → t < c → getD prev t 0 ≤ t
   pub inside : (t : ℕ) → t < c → getD place t 0 + h + read32 s (getD place t 0) ≤ length s
 
--- tables for m things: a number for each mark, all 0, and a link and a place for each thing
-pub record Tables (m : ℕ) (last prev place : List ℕ) : Type 0 where
-  pub marked : length last ≡ marks
-  pub none : (v : ℕ) → v < marks → getD last v 0 ≡ 0
+-- tables for m things whose marks are at most `top`: a number for each mark, all 0, and a link and a place for each thing
+pub record Tables (top m : ℕ) (last prev place : List ℕ) : Type 0 where
+  pub marked : top < length last
+  pub none : (v : ℕ) → v ≤ top → getD last v 0 ≡ 0
   pub linked : m ≤ length prev
   pub placed : m ≤ length place
 

@@ -1,6 +1,7 @@
--- A key's shard and its mark, by its hash. Assumes nothing: these are definitions.
+-- A key's shard, by its hash, and its mark. Assumes nothing: these are definitions.
 use Prim.Native.Nat.{ℕ, _+_, _*_, _-_, _/_, _%_}
 use mathlib.Core.Bool.{cond}
+use lib.Bits.{bitAnd}
 use lib.ListN.{length}
 use lib.Dec.{leb}
 use Rattle.buffer.specs.Same.{Bytes}
@@ -10,10 +11,6 @@ use Rattle.siphash.specs.Sip.{sipHash13}
 -- the number of a key's shard, of that many
 abbrev pub homeIn : ℕ → Bytes → ℕ
 homeIn shards k = sipHash13 k % shards
-
--- how many marks there are, of keys that are compared where they share one
-abbrev pub marks : ℕ
-marks = 2048
 
 -- a word of a key goes into a number below 2^32
 unfoldable pub mixed : ℕ → ℕ → ℕ
@@ -31,6 +28,6 @@ wholeMixed k = mixed (mixed (endsMixed k) (read64 k 8)) (read64 k (length k - 16
 unfoldable pub markedBy : Bytes → ℕ
 markedBy k = cond (leb 8 (length k)) (cond (leb (length k) 32) (cond (leb (length k) 16) (endsMixed k) (wholeMixed k)) (sipHash13 k)) (sipHash13 k)
 
--- the mark of a key: bits that the shard's number does not use
-abbrev pub markOf : Bytes → ℕ
-markOf k = markedBy k / 65536 % marks
+-- the mark of a key, at most `top`: of the bits that the shard's number does not use, those that `top` has
+unfoldable pub markOf : ℕ → Bytes → ℕ
+markOf top k = bitAnd (markedBy k / 65536) top

@@ -12,7 +12,7 @@ ghost use Rattle.arena_check.specs.Walk.{nth, before};
 ghost use Rattle.siphash.specs.Sip.{sipHash13};
 ghost use Rattle.arena.specs.Decode.{isImage};
 ghost use Rattle.arena.specs.Sizes.{setupOf};
-ghost use Rattle.arena_check.specs.Home.{homeIn, mixed, markedBy, markOf, marks};
+ghost use Rattle.arena_check.specs.Home.{homeIn, mixed, markedBy, markOf};
 ghost use Rattle.arena_check.specs.Chain.{Stand, keysFrom, Among, Answers, Latest, Chains, Linked, Tables, Chained};
 ghost use Rattle.arena_check.specs.Check.{keyIn, nextIn, keyAt, itemNext, itemWithin, entryOk, entriesEnd, itemOk, itemsEnd, shardOk};
 
@@ -135,14 +135,14 @@ fn marked_by(key: &[u8]) -> u64
     )
 }
 
-// The mark of the key of the thing at `at`: things with the same key have the same.
-fn mark_at(s: &[u8], h: usize, at: usize) -> usize
+// The mark of the key of the thing at `at`, at most `top`: things with the same key have the same.
+fn mark_at(s: &[u8], h: usize, top: usize, at: usize) -> usize
     requires { ⌜ (4 ≤ h) × (at + h + read32 (now s) at ≤ length (now s)) × (length (now s) < 2 ^ 32) ⌝ }
-    ensures { λ r. ⌜ (r ≡ markOf (keyIn h (now (s .entry)) at)) × (r < marks) ⌝ }
+    ensures { λ r. ⌜ (r ≡ markOf top (keyIn h (now (s .entry)) at)) × (r ≤ top) ⌝ }
 {
     let from = at + h;
     let to = from + buffer::read_u32(s, at) as usize;
-    (marked_by(&s[from..to]) / 65536 % 2048) as usize
+    (marked_by(&s[from..to]) / 65536) as usize & top
 }
 
 // A place and a number of a thing, as they are kept.
@@ -159,11 +159,11 @@ fn from_u16(x: u16) -> usize
 }
 
 // Whether a thing of a chain has the key of the one at `at`. Things are numbered from 1 on; `place` has where each stands and `prev` the number of
-// the one before it that has its mark, 0 for none; `last` is the number of the last one with the mark of the thing at `at`.
+// the one before it that has its mark, 0 for none; `last` is the number of the last one with the mark of the thing at `at`. How marks are made does not matter.
 fn in_chain(s: &[u8], h: usize, place: &[u32], prev: &[u16], last: usize, at: usize) -> bool
     requires { ⌜ Linked h (now s) (now place) (now prev) last × (4 ≤ h) × (at + h + read32 (now s) at ≤ length (now s)) × (length (now s) < 2 ^ 32) ⌝ }
-    ensures { λ r. ⌜ ((key : ℕ → Bytes) (k : ℕ) → Chains key (keyIn h (now (s .entry))) (now (place .entry)) (now (prev .entry)) k
-        → Latest key (markOf (keyIn h (now (s .entry)) at)) last k → Among key r k (keyIn h (now (s .entry)) at)) ⌝ }
+    ensures { λ r. ⌜ ((mark : Bytes → ℕ) (key : ℕ → Bytes) (k : ℕ) → Chains mark key (keyIn h (now (s .entry))) (now (place .entry)) (now (prev .entry)) k
+        → Latest mark key (mark (keyIn h (now (s .entry)) at)) last k → Among key r k (keyIn h (now (s .entry)) at)) ⌝ }
 {
     let key = at + h;
     let len = buffer::read_u32(s, at) as usize;
@@ -180,12 +180,13 @@ fn in_chain(s: &[u8], h: usize, place: &[u32], prev: &[u16], last: usize, at: us
 }
 
 // Where the first m of n things from `first` on end; 0 where two things have the same key, one of them among the first m. Each is compared with those
-// of the first m before it that share its mark. It is lent the tables of the chains: for each mark the number of the latest thing that has it, all 0 at first,
-// and what `in_chain` follows.
+// of the first m before it that share its mark, of marks up to `top`. It is lent the tables of the chains: for each mark the number of the latest thing that
+// has it, all 0 at first, and what `in_chain` follows.
 fn chained(
     s: &[u8],
     h: usize,
     f: usize,
+    top: usize,
     m: usize,
     n: usize,
     first: usize,
@@ -193,56 +194,63 @@ fn chained(
     prev: &mut [u16],
     place: &mut [u32],
 ) -> usize
-    requires { ⌜ Stand h f (now s) n first × (0 < m) × (m ≤ n) × (m ≤ 4096) × Tables m (now last) (now prev) (now place) ⌝ }
+    requires { ⌜ Stand h f (now s) n first × (0 < m) × (m ≤ n) × (m ≤ 4096) × Tables top m (now last) (now prev) (now place) ⌝ }
     ensures { λ r. ⌜ Chained h f (now (s .entry)) first m n r ⌝ }
 {
     let mut at = first;
+    let mut end = first;
     let mut i = 0;
-    while i < m {
-        let mark = mark_at(s, h, at);
-        let c = last[mark];
-        if in_chain(s, h, place, prev, from_u16(c), at) {
-            return 0;
-        }
-        place[i] = at as u32;
-        prev[i] = c;
-        i += 1;
-        last[mark] = i as u16;
-        at = next_place(s, h, f, at);
-    }
-    let end = at;
     while i < n {
-        let mark = mark_at(s, h, at);
+        let mark = mark_at(s, h, top, at);
         let c = last[mark];
         if in_chain(s, h, place, prev, from_u16(c), at) {
             return 0;
         }
-        at = next_place(s, h, f, at);
-        i += 1;
+        let next = next_place(s, h, f, at);
+        let count = i + 1;
+        if i < m {
+            place[i] = at as u32;
+            prev[i] = c;
+            last[mark] = count as u16;
+            end = next;
+        }
+        at = next;
+        i = count;
     }
     end
 }
 
-// So for at most 64 things, all of which are chained: small tables are soon cleared.
+// So for at most 64 things, all of which are chained. Few things have few marks: small tables are soon cleared.
 fn small_chained(s: &[u8], h: usize, f: usize, n: usize, first: usize) -> usize
     requires { ⌜ Stand h f (now s) n first × (0 < n) × (n ≤ 64) ⌝ }
     ensures { λ r. ⌜ Chained h f (now (s .entry)) first n n r ⌝ }
 {
-    let mut last = [0u16; 2048];
+    let mut last = [0u16; 256];
     let mut prev = [0u16; 64];
     let mut place = [0u32; 64];
-    chained(s, h, f, n, n, first, &mut last, &mut prev, &mut place)
+    chained(s, h, f, 255, n, n, first, &mut last, &mut prev, &mut place)
 }
 
-// And for at most 4,096 of n.
+// For at most 512.
+fn middle_chained(s: &[u8], h: usize, f: usize, n: usize, first: usize) -> usize
+    requires { ⌜ Stand h f (now s) n first × (0 < n) × (n ≤ 512) ⌝ }
+    ensures { λ r. ⌜ Chained h f (now (s .entry)) first n n r ⌝ }
+{
+    let mut last = [0u16; 2048];
+    let mut prev = [0u16; 512];
+    let mut place = [0u32; 512];
+    chained(s, h, f, 2047, n, n, first, &mut last, &mut prev, &mut place)
+}
+
+// And for at most 4,096 of n. Many things have many marks: then few share one, and a thing far off is seldom read again.
 fn large_chained(s: &[u8], h: usize, f: usize, m: usize, n: usize, first: usize) -> usize
     requires { ⌜ Stand h f (now s) n first × (0 < m) × (m ≤ n) × (m ≤ 4096) ⌝ }
     ensures { λ r. ⌜ Chained h f (now (s .entry)) first m n r ⌝ }
 {
-    let mut last = [0u16; 2048];
+    let mut last = [0u16; 8192];
     let mut prev = [0u16; 4096];
     let mut place = [0u32; 4096];
-    chained(s, h, f, m, n, first, &mut last, &mut prev, &mut place)
+    chained(s, h, f, 8191, m, n, first, &mut last, &mut prev, &mut place)
 }
 
 // The smaller of a number and 4096.
@@ -255,16 +263,20 @@ fn at_most_4096(n: usize) -> usize
     4096
 }
 
-// The same for any number of things, in blocks of 4,096.
+// Whether no two of the n things from `first` on have the same key: few are compared pairwise, more are chained, with as many marks as they ask for, and
+// beyond 4,096 they are taken in blocks.
 fn many_distinct(s: &[u8], h: usize, f: usize, n: usize, first: usize) -> bool
     requires { ⌜ Stand h f (now s) n first ⌝ }
     ensures { λ r. ⌜ Answers (keysFrom h f (now (s .entry)) first) r n n ⌝ }
 {
-    if n <= 4 {
+    if n < 8 {
         return few_distinct(s, h, f, n, first);
     }
     if n <= 64 {
         return small_chained(s, h, f, n, first) != 0;
+    }
+    if n <= 512 {
+        return middle_chained(s, h, f, n, first) != 0;
     }
     let mut at = first;
     let mut left = n;
@@ -280,7 +292,7 @@ fn many_distinct(s: &[u8], h: usize, f: usize, n: usize, first: usize) -> bool
     true
 }
 
-// Whether no two of the n things from `first` on have the same key. Most items have one entry, and one thing is not walked.
+// The same. Most items have one entry, and one thing is not walked.
 fn distinct(s: &[u8], h: usize, f: usize, n: usize, first: usize) -> bool
     requires { ⌜ Stand h f (now s) n first ⌝ }
     ensures { λ r. ⌜ Answers (keysFrom h f (now (s .entry)) first) r n n ⌝ }
@@ -361,7 +373,8 @@ fn home_of(hash: u64, shards: usize) -> usize
 
 // Whether an item of that shard stands at `at`, within `end`; its lengths are, and its key's hash is given.
 fn item_ok(s: &[u8], shards: usize, shard: usize, end: usize, at: usize, hash: u64) -> bool
-    requires { ⌜ (at + 32 ≤ end) × (itemNext (now s) at ≤ end) × (end ≤ length (now s)) × (length (now s) < 2 ^ 32) × (hash ≡ sipHash13 (keyAt (now s) at)) × (0 < shards) ⌝ }
+    requires { ⌜ (at + 32 ≤ end) × (itemNext (now s) at ≤ end) × (end ≤ length (now s)) × (length (now s) < 2 ^ 32)
+        × (hash ≡ sipHash13 (keyAt (now s) at)) × (0 < shards) ⌝ }
     ensures { λ r. ⌜ r ≡ itemOk isValue (homeIn shards) (now (s .entry)) shard end at ⌝ }
 {
     if buffer::read_u32(s, at + 28) != 0 {
@@ -382,7 +395,8 @@ fn item_ok(s: &[u8], shards: usize, shard: usize, end: usize, at: usize, hash: u
     entries_end(s, next, n, at + 32 + k) == next
 }
 
-// Where n items of that shard end that stand from byte 16 on, within `end`; 0 where they do not, or a key is there twice.
+// Where n items of that shard end that stand from byte 16 on, within `end`; 0 where they do not, or a key is there twice. A shard with one item or none
+// is not asked for that, since even the memory of the tables takes its time.
 fn items_end(s: &[u8], shards: usize, shard: usize, end: usize, n: usize) -> usize
     requires { ⌜ (16 ≤ end) × (end ≤ length (now s)) × (length (now s) < 2 ^ 32) × (0 < shards) ⌝ }
     ensures { λ r. ⌜ r ≡ itemsEnd isValue (homeIn shards) (now (s .entry)) shard end n ⌝ }
@@ -399,6 +413,9 @@ fn items_end(s: &[u8], shards: usize, shard: usize, end: usize, n: usize) -> usi
         }
         at = next_place(s, 32, 24, at);
         i += 1;
+    }
+    if n < 2 {
+        return at;
     }
     if !many_distinct(s, 32, 24, n, 16) {
         return 0;

@@ -1,6 +1,7 @@
 -- Numbers as little-endian fields of w bytes: how they are written (`le`) and read (`readLe`), with each law once for every width.
 -- Assumes nothing.
 use mathlib.Core.Path.{_≡_, refl, ap, ap₂, _∙_, sym}
+use mathlib.Core.Bool.{false}
 use mathlib.Core.List.{[], _∷_, _++_}
 use Prim.Native.Nat.{ℕ, zero, suc, _+_, _*_, _/_, _%_, _^_, _≤_, _<_}
 use native.Mathlib.Omega.{arith}
@@ -8,7 +9,7 @@ use native.Mathlib.Nat.{add-zero, zero-add, mul-assoc, pow-zero, pow-suc, pow-su
 use native.Mathlib.Numerals.{add-one}
 use lib.ListN.{length, getD, take, drop}
 use lib.Seq.{getD-append-add, drop-cons, length-take-le}
-use Rattle.buffer.specs.Same.{Bytes}
+use Rattle.buffer.specs.Same.{Bytes, same, unequal-same}
 use Rattle.buffer.specs.Part.{part, put, getD-part, part-put-before, part-put-after}
 
 -- the w bytes of n, the lowest first
@@ -149,6 +150,10 @@ le-read (suc w) s at b h =
 pub read-in-part : (w : ℕ) (s : Bytes) (at n i : ℕ) → i + w ≤ n → readLe w (part s at n) i ≡ readLe w s (at + i)
 read-in-part w s at n i h =
     read-agree w (part s at n) s i (at + i) (λ j l. let e : at + (i + j) ≡ at + i + j = omega arith in cc (getD-part s at n (i + j) 0 (omega arith)))
+
+-- byte strings in which other numbers are read at a place are not the same
+pub other-read : (w : ℕ) (a b : Bytes) (i : ℕ) → (readLe w a i ≡ readLe w b i → ⊥) → same a b ≡ false
+other-read w a b i n = unequal-same a b (λ e. n (ap (λ (z : Bytes). readLe w z i) e))
 
 -- what was put as a field is read there
 pub read-put : (w : ℕ) (s : Bytes) (at n : ℕ) → at ≤ length s → n < 256 ^ w → readLe w (put s at (le w n)) at ≡ n

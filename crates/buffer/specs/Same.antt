@@ -45,6 +45,10 @@ same-append [] b (y ∷ c) d l = absurd (omega arith)
 same-append (x ∷ a) b [] d l = absurd (omega arith)
 same-append (x ∷ a) b (y ∷ c) d l = byTest (eqb x y) (λ p. rw p (same-append a b c d (omega arith))) (λ p. rw p)
 
+-- byte strings that are not equal are not the same
+pub unequal-same : (a b : Bytes) → (a ≡ b → ⊥) → same a b ≡ false
+unequal-same a b n = byTest (same a b) (λ p. absurd (n (same-eq a b p))) (λ p. p)
+
 -- byte strings of other lengths are not the same
 pub same-length : (a b : Bytes) → (length a ≡ length b → ⊥) → same a b ≡ false
-same-length a b n = byTest (same a b) (λ p. absurd (n (ap length (same-eq a b p)))) (λ p. p)
+same-length a b n = unequal-same a b (λ e. n (ap length e))

@@ -10,11 +10,6 @@ use Rattle.arena_check.proofs.Laws.{entry-within}
 use Rattle.arena_check.proofs.Walks.{Walked, walk-start, walk-done, walk-inside, walk-bad, walk-next, walk-failed, walk-answer}
 use Rattle.arena_check.proofs.entries_end.Statement.{statement}
 use Rattle.arena_check.proofs.entries_end.Tie as tie
-use Rattle.arena_check.proofs.entries_end.Reads as reads
-use Rattle.arena_check.proofs.entries_end.Lts as lts
-use Rattle.arena_check.proofs.distinct.Reads as distinct-reads
-use Rattle.arena_check.proofs.entry_ok.Reads as entry-ok-reads
-use Rattle.arena_check.proofs.next_place.Reads as next-place-reads
 
 abbrev Inv-loop : tie.InvT-loop
 Inv-loop s end n first at₀ i₀ at i = Walked (entryNext s) (entryOk isValue s end) end first n at i

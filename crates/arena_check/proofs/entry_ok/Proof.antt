@@ -8,11 +8,6 @@ use Rattle.arena_check.proofs.Laws.{zero-read, value-read, entry-short,
 use borrow.Author.Needs.{needs}
 use Rattle.arena_check.proofs.entry_ok.Statement.{statement}
 use Rattle.arena_check.proofs.entry_ok.Tie as tie
-use Rattle.arena_check.proofs.entry_ok.Reads as reads
-use Rattle.arena_check.proofs.entry_ok.Lts as lts
-use Rattle.buffer.proofs.read_u32.Reads as read-u32-reads
-use Rattle.buffer.proofs.read_u64.Reads as read-u64-reads
-use Rattle.resp3.proofs.value_in.Reads as value-in-reads
 
 sub-if1 : tie.Need-sub-if1
 sub-if1 c = search needs

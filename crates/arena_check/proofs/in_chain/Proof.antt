@@ -5,7 +5,6 @@ use native.Mathlib.Omega.{arith}
 use mathlib.Core.Bool.{true, false}
 use borrow.Author.Needs.{needs}
 use Rattle.buffer.specs.Same.{Bytes}
-use Rattle.arena_check.specs.Home.{markOf}
 use Rattle.arena_check.specs.Check.{keyIn}
 use Rattle.arena_check.specs.Chain.{Latest, Chains}
 use Rattle.arena_check.proofs.Laws.{same-keys}
@@ -16,7 +15,8 @@ use Rattle.arena_check.proofs.in_chain.Tie as tie
 abbrev Inv-loop : tie.InvT-loop
 Inv-loop s h place prev last at key len c₀ c =
     (c ≤ last)
-    × ((keys : ℕ → Bytes) (k : ℕ) → Chains keys (keyIn h s) place prev k → Latest keys (markOf (keyIn h s at)) last k → Left keys (keyIn h s at) k c)
+    × ((mark : Bytes → ℕ) (keys : ℕ → Bytes) (k : ℕ) → Chains mark keys (keyIn h s) place prev k → Latest mark keys (mark (keyIn h s at)) last k
+    → Left mark keys (keyIn h s at) k c)
 
 abbrev μ-loop : tie.MeasureT-loop
 μ-loop s h place prev last at key len c₀ c = c
@@ -33,7 +33,7 @@ cast-len c = omega arith
 loop-holds : tie.Need-loop-holds Inv-loop μ-loop
 loop-holds c =
     let a = c .before .before .before .before .args in
-    (omega arith, λ keys k w o. left-start keys (keyIn (a .h) (a .s .now) (a .at)) k (a .last) o)
+    (omega arith, λ mark keys k w o. left-start mark keys (keyIn (a .h) (a .s .now) (a .at)) k (a .last) o)
 
 sub-from-u32 : tie.Need-sub-from-u32 Inv-loop μ-loop
 sub-from-u32 c = omega arith
@@ -86,10 +86,10 @@ returns c =
     let x : Bytes = keyIn (a .h) (a .s .now) (a .at) in
     let test = same-keys (a .s .now) (a .h) (c .before .before .before .from-u32 .result) (a .at) _ _ _ (c .before .before .read-u322 .ensures)
     (c .before .before .before .before .before .before .before .read-u32 .ensures) (c .before .same-part .ensures) ∙ c .if1 .taken in
-    λ keys k w o.
-    let left = l .inv .1 keys k w o in
-    left-hit keys x k (l .c) left (omega arith)
-    (compared keys (keyIn (a .h) (a .s .now)) (a .place .now) (a .prev .now) k (l .c) _ x true w (omega arith) (left .low)
+    λ mark keys k w o.
+    let left = l .inv .1 mark keys k w o in
+    left-hit mark keys x k (l .c) left (omega arith)
+    (compared mark keys (keyIn (a .h) (a .s .now)) (a .place .now) (a .prev .now) k (l .c) _ x true w (omega arith) (left .low)
     (c .before .before .before .from-u32 .ensures) test)
 
 sub-from-u16 : tie.Need-sub-from-u16 Inv-loop μ-loop
@@ -122,12 +122,12 @@ loop-again c =
     let b = c .before .before .before .before .before .before .before .before .before .before .before .before .before .pre .0 .back (l .c - 1)
     (omega arith) in (
       omega arith,
-      λ keys k w o.
-          let left = l .inv .1 keys k w o in
+      λ mark keys k w o.
+          let left = l .inv .1 mark keys k w o in
           let low = left .low in
-          left-next keys x k (l .c) _ left (omega arith)
-          (subst (λ (q : ℕ). Latest keys (markOf (keys (l .c - 1))) q (l .c - 1)) (sym (c .from-u16 .ensures)) (w .links (l .c - 1) (omega arith)))
-          (compared keys (keyIn (a .h) (a .s .now)) (a .place .now) (a .prev .now) k (l .c) _ x false w (omega arith) low
+          left-next mark keys x k (l .c) _ left (omega arith)
+          (subst (λ (q : ℕ). Latest mark keys (mark (keys (l .c - 1))) q (l .c - 1)) (sym (c .from-u16 .ensures)) (w .links (l .c - 1) (omega arith)))
+          (compared mark keys (keyIn (a .h) (a .s .now)) (a .place .now) (a .prev .now) k (l .c) _ x false w (omega arith) low
           (c .before .before .before .before .before .from-u32 .ensures) test),
     )
 
@@ -135,7 +135,7 @@ returns-2 : tie.Need-returns-2 Inv-loop μ-loop
 returns-2 c =
     let a = c .before .before .before .before .before .before .args in
     let l = c .before .loop in
-    λ keys k w o. left-none keys (keyIn (a .h) (a .s .now) (a .at)) k (l .c) (l .inv .1 keys k w o) (omega arith)
+    λ mark keys k w o. left-none mark keys (keyIn (a .h) (a .s .now) (a .at)) k (l .c) (l .inv .1 mark keys k w o) (omega arith)
 
 pub in-chain-spec : {M : Type 1} → statement M
 in-chain-spec =

@@ -12,10 +12,6 @@ use Rattle.arena_check.specs.Home.{homeIn}
 use Rattle.arena_check.proofs.Shards.{rest-read, shards-bad, shards-good, shard-read, lent-length, within-all, image-rest, image-shards, shards-none}
 use Rattle.arena_check.proofs.is_image.Statement.{statement}
 use Rattle.arena_check.proofs.is_image.Tie as tie
-use Rattle.arena_check.proofs.is_image.Reads as reads
-use Rattle.arena_check.proofs.is_image.Lts as lts
-use Rattle.arena_check.proofs.shard_ok.Reads as shard-ok-reads
-use Rattle.buffer.proofs.all_zero.Reads as all-zero-reads
 
 abbrev Inv-loop : tie.InvT-loop
 Inv-loop arena shards keys bytes all i₀ i =

@@ -10,11 +10,6 @@ use Rattle.arena_check.proofs.Items.{ends-read, home-read, item-filled,
 use borrow.Author.Needs.{needs}
 use Rattle.arena_check.proofs.item_ok.Statement.{statement}
 use Rattle.arena_check.proofs.item_ok.Tie as tie
-use Rattle.arena_check.proofs.item_ok.Reads as reads
-use Rattle.arena_check.proofs.item_ok.Lts as lts
-use Rattle.arena_check.proofs.entries_end.Reads as entries-end-reads
-use Rattle.arena_check.proofs.next_place.Reads as next-place-reads
-use Rattle.buffer.proofs.read_u32.Reads as read-u32-reads
 
 add-read-u32 : tie.Need-add-read-u32
 add-read-u32 c = omega arith

@@ -5,9 +5,6 @@ use Rattle.arena_check.proofs.Items.{within-short, within-read}
 use borrow.Author.Needs.{needs}
 use Rattle.arena_check.proofs.item_within.Statement.{statement}
 use Rattle.arena_check.proofs.item_within.Tie as tie
-use Rattle.arena_check.proofs.item_within.Reads as reads
-use Rattle.arena_check.proofs.item_within.Lts as lts
-use Rattle.buffer.proofs.read_u32.Reads as read-u32-reads
 
 sub-if1 : tie.Need-sub-if1
 sub-if1 c = search needs

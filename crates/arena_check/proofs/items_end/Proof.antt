@@ -1,23 +1,18 @@
 -- `arena_check::items_end` meets its contract. The loop's invariant: the items walked so far. Assumes nothing.
-use mathlib.Core.Path.{sym, _∙_}
-use Prim.Native.Nat.{_-_}
+use mathlib.Core.Path.{_≡_, refl, sym, _∙_}
+use Prim.Native.Nat.{ℕ, _-_, _≤_}
 use native.Mathlib.Omega.{arith}
-use mathlib.Core.Bool.{true, false}
+use mathlib.Core.Bool.{Bool, true, false}
 use borrow.Author.Tests.{not-true, not-false}
+use Rattle.buffer.specs.Same.{Bytes}
 use Rattle.resp3.specs.Ends.{isValue}
 use Rattle.arena_check.specs.Check.{keyAt, itemNext, itemOk, itemsEnd}
 use Rattle.arena_check.specs.Home.{homeIn}
+use Rattle.arena_check.specs.Chain.{keysFrom, Answers}
 use Rattle.arena_check.proofs.Items.{within-says, item-outside}
 use Rattle.arena_check.proofs.Walks.{Walked, walk-start, walk-done, walk-inside, walk-bad, walk-next, walk-failed, walk-answer}
 use Rattle.arena_check.proofs.items_end.Statement.{statement}
 use Rattle.arena_check.proofs.items_end.Tie as tie
-use Rattle.arena_check.proofs.items_end.Reads as reads
-use Rattle.arena_check.proofs.items_end.Lts as lts
-use Rattle.arena_check.proofs.many_distinct.Reads as many-distinct-reads
-use Rattle.arena_check.proofs.item_ok.Reads as item-ok-reads
-use Rattle.arena_check.proofs.item_within.Reads as item-within-reads
-use Rattle.arena_check.proofs.key_hash.Reads as key-hash-reads
-use Rattle.arena_check.proofs.next_place.Reads as next-place-reads
 
 abbrev Inv-loop : tie.InvT-loop
 Inv-loop s shards shard end n at₀ i₀ at i = Walked (itemNext s) (itemOk isValue (homeIn shards) s shard end) end 16 n at i
@@ -92,30 +87,41 @@ loop-again c =
     walk-next (itemNext (a .s .now)) (itemOk isValue (homeIn (a .shards)) (a .s .now) (a .shard) (a .end)) (a .end) 16 (a .n) (l .at) (l .i) (l .inv)
     (omega arith) (sym (c .before .before .item-ok .ensures) ∙ not-false _ (c .before .if2 .left)) (q .1) _ (c .next-place .ensures)
 
+-- items that were all walked, and of which no two have the same key, end where the walk is
+ended : (s : Bytes) (shards shard end n at i : ℕ) (r : Bool) → Walked (itemNext s) (itemOk isValue (homeIn shards) s shard end) end 16 n at i → n ≤ i
+    → r ≡ true → Answers (keysFrom 32 24 s 16) r n n → at ≡ itemsEnd isValue (homeIn shards) s shard end n
+unfolding itemsEnd
+ended s shards shard end n at i r w l e q =
+    sym (walk-answer (keyAt s) (itemNext s) (itemOk isValue (homeIn shards) s shard end) 16 r true n e q
+    ∙ walk-done (itemNext s) (itemOk isValue (homeIn shards) s shard end) end 16 n at i w l)
+
+returns-3 : tie.Need-returns-3 Inv-loop μ-loop
+returns-3 c =
+    let a = c .before .before .before .before .args in
+    let l = c .before .before .loop in
+    ended (a .s .now) (a .shards) (a .shard) (a .end) (a .n) (l .at) (l .i) true (l .inv) (omega arith) refl (λ j k p q r. absurd (omega arith))
+
 many-distinct-requires : tie.Need-many-distinct-requires Inv-loop μ-loop
 many-distinct-requires c κs =
-    let a = c .before .before .before .args in
-    let l = c .before .loop in
+    let a = c .before .before .before .before .args in
+    let l = c .before .before .loop in
     let w = walk-inside (itemNext (a .s .now)) (itemOk isValue (homeIn (a .shards)) (a .s .now) (a .shard) (a .end)) (a .end) 16 (a .n) (l .at)
     (l .i) (l .inv) (omega arith) in
     ((λ k q. let p = w k q in omega arith), omega arith, omega arith, omega arith)
 
-returns-3 : tie.Need-returns-3 Inv-loop μ-loop
-unfolding itemsEnd
-returns-3 c =
-    let a = c .before .before .before .before .before .args in
-    sym (walk-answer (keyAt (a .s .now)) (itemNext (a .s .now)) (itemOk isValue (homeIn (a .shards)) (a .s .now) (a .shard) (a .end)) 16
-    (c .before .many-distinct .result) false (a .n) (not-true _ (c .if3 .taken)) (c .before .many-distinct .ensures))
-
 returns-4 : tie.Need-returns-4 Inv-loop μ-loop
 unfolding itemsEnd
 returns-4 c =
-    let a = c .before .before .before .before .before .args in
-    let l = c .before .before .before .loop in
+    let a = c .before .before .before .before .before .before .args in
     sym (walk-answer (keyAt (a .s .now)) (itemNext (a .s .now)) (itemOk isValue (homeIn (a .shards)) (a .s .now) (a .shard) (a .end)) 16
-    (c .before .many-distinct .result) true (a .n) (not-false _ (c .if3 .left)) (c .before .many-distinct .ensures)
-    ∙ walk-done (itemNext (a .s .now)) (itemOk isValue (homeIn (a .shards)) (a .s .now) (a .shard) (a .end)) (a .end) 16 (a .n) (l .at) (l .i)
-    (l .inv) (omega arith))
+    (c .before .many-distinct .result) false (a .n) (not-true _ (c .if4 .taken)) (c .before .many-distinct .ensures))
+
+returns-5 : tie.Need-returns-5 Inv-loop μ-loop
+returns-5 c =
+    let a = c .before .before .before .before .before .before .args in
+    let l = c .before .before .before .before .loop in
+    ended (a .s .now) (a .shards) (a .shard) (a .end) (a .n) (l .at) (l .i) (c .before .many-distinct .result) (l .inv) (omega arith)
+    (not-false _ (c .if4 .left)) (c .before .many-distinct .ensures)
 
 pub items-end-spec : {M : Type 1} → statement M
 items-end-spec =
@@ -133,6 +139,7 @@ items-end-spec =
     add-i
     loop-less
     loop-again
-    many-distinct-requires
     returns-3
-    returns-4)
+    many-distinct-requires
+    returns-4
+    returns-5)

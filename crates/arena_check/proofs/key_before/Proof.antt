@@ -11,10 +11,6 @@ use Rattle.buffer.specs.Same.{Bytes}
 use Rattle.arena_check.proofs.Laws.{same-keys, next-place, nth-more, before-hit, before-more, before-end}
 use Rattle.arena_check.proofs.key_before.Statement.{statement}
 use Rattle.arena_check.proofs.key_before.Tie as tie
-use Rattle.arena_check.proofs.key_before.Reads as reads
-use Rattle.arena_check.proofs.key_before.Lts as lts
-use Rattle.arena_check.proofs.same_part.Reads as same-part-reads
-use Rattle.buffer.proofs.read_u32.Reads as read-u32-reads
 
 abbrev Inv-loop : tie.InvT-loop
 Inv-loop s h f n from at key len p₀ k₀ p k =

@@ -3,10 +3,6 @@ use Rattle.arena_check.proofs.Items.{hash-read}
 use borrow.Author.Needs.{needs}
 use Rattle.arena_check.proofs.key_hash.Statement.{statement}
 use Rattle.arena_check.proofs.key_hash.Tie as tie
-use Rattle.arena_check.proofs.key_hash.Reads as reads
-use Rattle.arena_check.proofs.key_hash.Lts as lts
-use Rattle.buffer.proofs.read_u32.Reads as read-u32-reads
-use Rattle.siphash.proofs.sip_hash_13.Reads as sip-hash-13-reads
 
 add-from : tie.Need-add-from
 add-from c = search needs

@@ -20,7 +20,7 @@ chained-requires c κs = (
   omega arith,
   omega arith,
   omega arith,
-  tables-clear (c .before .before .before .before .args .m) 4096
+  tables-clear 8191 (c .before .before .before .before .args .m) 4096
       (omega arith),
 )
 

@@ -6,7 +6,7 @@ use borrow.Author.Needs.{needs}
 use Rattle.arena_check.specs.Walk.{nth}
 use Rattle.arena_check.specs.Check.{nextIn}
 use Rattle.arena_check.specs.Chain.{keysFrom, Apart}
-use Rattle.arena_check.proofs.Blocks.{chained-answers, left-all, left-stands, left-twice, left-apart, left-place}
+use Rattle.arena_check.proofs.Blocks.{chained-answers, nth-none, left-stands, left-twice, left-apart, left-place}
 use Rattle.arena_check.proofs.many_distinct.Statement.{statement}
 use Rattle.arena_check.proofs.many_distinct.Tie as tie
 
@@ -31,32 +31,40 @@ returns-2 c =
     let a = c .before .before .before .before .args in
     chained-answers (a .h) (a .f) (a .s .now) (a .first) (a .n) (c .small-chained .result) (c .small-chained .ensures)
 
+middle-chained-requires : tie.Need-middle-chained-requires Inv-loop μ-loop
+middle-chained-requires c κs = (c .before .before .before .before .pre, omega arith, omega arith)
+
+returns-3 : tie.Need-returns-3 Inv-loop μ-loop
+returns-3 c =
+    let a = c .before .before .before .before .before .args in
+    chained-answers (a .h) (a .f) (a .s .now) (a .first) (a .n) (c .middle-chained .result) (c .middle-chained .ensures)
+
 loop-holds : tie.Need-loop-holds Inv-loop μ-loop
 loop-holds c =
-    let a = c .before .before .before .args in
-    (omega arith, left-all (nextIn (a .h) (a .f) (a .s .now)) (a .first) (a .n), λ j k p q r. absurd (omega arith))
+    let a = c .before .before .before .before .args in
+    (omega arith, nth-none (nextIn (a .h) (a .f) (a .s .now)) (a .first) _ (omega arith), λ j k p q r. absurd (omega arith))
 
 at-most-4096-requires : tie.Need-at-most-4096-requires Inv-loop μ-loop
 at-most-4096-requires c κs = search needs
 
 large-chained-requires : tie.Need-large-chained-requires Inv-loop μ-loop
 large-chained-requires c κs =
-    let a = c .before .before .before .before .before .before .args in
+    let a = c .before .before .before .before .before .before .before .args in
     let l = c .before .before .loop in
     let some = c .at-most-4096 .ensures .2 (omega arith) in (
       left-stands (a .h) (a .f) (a .s .now) (a .first) (a .n) (l .left) (l .at) (c .at-most-4096 .result) (l .inv .0) (l .inv .1)
-          (c .before .before .before .before .before .before .pre),
+          (c .before .before .before .before .before .before .before .pre),
       omega arith,
       omega arith,
       omega arith,
     )
 
-returns-3 : tie.Need-returns-3 Inv-loop μ-loop
-returns-3 c =
-    let a = c .before .before .before .before .before .before .before .before .args in
+returns-4 : tie.Need-returns-4 Inv-loop μ-loop
+returns-4 c =
+    let a = c .before .before .before .before .before .before .before .before .before .args in
     let l = c .before .before .before .before .loop in
     left-twice (a .h) (a .f) (a .s .now) (a .first) (a .n) (l .left) (l .at) (c .before .before .at-most-4096 .result) (l .inv .0) (l .inv .1)
-    (c .before .large-chained .ensures .refused (c .if3 .taken))
+    (c .before .large-chained .ensures .refused (c .if4 .taken))
 
 sub-left : tie.Need-sub-left Inv-loop μ-loop
 sub-left c = omega arith
@@ -68,7 +76,7 @@ loop-less c =
 
 loop-again : tie.Need-loop-again Inv-loop μ-loop
 loop-again c =
-    let a = c .before .before .before .before .before .before .before .before .args in
+    let a = c .before .before .before .before .before .before .before .before .before .args in
     let l = c .before .before .before .before .loop in
     let m = c .before .before .at-most-4096 .result in
     let found : 0 < c .before .large-chained .result = omega arith in (
@@ -79,8 +87,8 @@ loop-again c =
           (c .before .large-chained .ensures .apart found),
     )
 
-returns-4 : tie.Need-returns-4 Inv-loop μ-loop
-returns-4 c = let l = c .before .loop in (λ j k p q r. l .inv .2 j k (omega arith) q r)
+returns-5 : tie.Need-returns-5 Inv-loop μ-loop
+returns-5 c = let l = c .before .loop in (λ j k p q r. l .inv .2 j k (omega arith) q r)
 
 pub many-distinct-spec : {M : Type 1} → statement M
 many-distinct-spec =
@@ -92,11 +100,13 @@ many-distinct-spec =
     returns
     small-chained-requires
     returns-2
+    middle-chained-requires
+    returns-3
     loop-holds
     at-most-4096-requires
     large-chained-requires
-    returns-3
+    returns-4
     sub-left
     loop-less
     loop-again
-    returns-4)
+    returns-5)

@@ -30,7 +30,7 @@ marked-by-requires c κs = search needs
 
 returns : tie.Need-returns
 returns c =
-    let a = c .before .before .before .before .args in mark-read (a .s .now) (a .h) (a .at) _ _ (c .before .before .read-u32 .ensures)
+    let a = c .before .before .before .before .args in mark-read (a .s .now) (a .h) (a .top) (a .at) _ _ (c .before .before .read-u32 .ensures)
     (c .marked-by .ensures)
 
 pub mark-at-spec : {M : Type 1} → statement M

@@ -10,12 +10,6 @@ use Rattle.arena_check.proofs.Shards.{rest-read, shard-many, shard-long
 use borrow.Author.Needs.{needs}
 use Rattle.arena_check.proofs.shard_ok.Statement.{statement}
 use Rattle.arena_check.proofs.shard_ok.Tie as tie
-use Rattle.arena_check.proofs.shard_ok.Reads as reads
-use Rattle.arena_check.proofs.shard_ok.Lts as lts
-use Rattle.arena_check.proofs.items_end.Reads as items-end-reads
-use Rattle.buffer.proofs.all_zero.Reads as all-zero-reads
-use Rattle.buffer.proofs.read_u32.Reads as read-u32-reads
-use Rattle.buffer.proofs.read_u64.Reads as read-u64-reads
 
 read-u32-requires : tie.Need-read-u32-requires
 read-u32-requires c κs = search needs

@@ -20,7 +20,7 @@ chained-requires c κs = (
   omega arith,
   omega arith,
   omega arith,
-  tables-clear (c .before .before .before .before .args .n) 64
+  tables-clear 255 (c .before .before .before .before .args .n) 64
       (omega arith),
 )
 
