@@ -2,7 +2,7 @@
 // answers what the leaf below it answers.
 use cursor::Args;
 ghost use mathlib.Core.Path.{_≡_};
-ghost use Prim.Native.Nat.{_+_, _≤_};
+ghost use Prim.Native.Nat.{_≤_};
 ghost use lib.ListN.{length};
 ghost use Rattle.buffer.specs.Part.{put};
 ghost use Rattle.buffer.specs.Same.{same};

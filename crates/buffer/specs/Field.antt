@@ -7,10 +7,10 @@ use Prim.Native.Nat.{ℕ, zero, suc, _+_, _*_, _/_, _%_, _^_, _≤_, _<_}
 use native.Mathlib.Omega.{arith}
 use native.Mathlib.Nat.{add-zero, zero-add, mul-assoc, pow-zero, pow-suc, pow-succ', suc-add, div-one, div-div-eq-div-mul, mod-add-div}
 use native.Mathlib.Numerals.{add-one}
-use lib.ListN.{length, getD, take, drop}
-use lib.Seq.{getD-append-add, drop-cons, length-take-le}
+use lib.ListN.{length, getD, drop}
+use lib.Seq.{getD-append-add, drop-cons}
 use Rattle.buffer.specs.Same.{Bytes, same, unequal-same}
-use Rattle.buffer.specs.Part.{part, put, getD-part, part-put-before, part-put-after}
+use Rattle.buffer.specs.Part.{part, getD-part}
 
 -- the w bytes of n, the lowest first
 unfoldable pub le : ℕ → ℕ → Bytes
@@ -131,10 +131,6 @@ read-agree (suc w) s t at to f = ap₂ (λ (x y : ℕ). x + 256 * y) first (read
         let b : to + suc i ≡ to + 1 + i = omega arith in
         cc (f (suc i) (omega arith))
 
--- a field is read from the part that holds it
-pub read-part : (w : ℕ) (s : Bytes) (at : ℕ) → readLe w s at ≡ readLe w (part s at w) 0
-read-part w s at = read-agree w s (part s at w) at 0 (λ i h. sym (cc (getD-part s at w i 0 h, zero-add i)))
-
 -- the bytes that were read are those of the number that was read
 pub le-read : (w : ℕ) (s : Bytes) (at : ℕ) → Octets s → at + w ≤ length s → le w (readLe w s at) ≡ part s at w
 unfolding le readLe part
@@ -154,16 +150,3 @@ read-in-part w s at n i h =
 -- byte strings in which other numbers are read at a place are not the same
 pub other-read : (w : ℕ) (a b : Bytes) (i : ℕ) → (readLe w a i ≡ readLe w b i → ⊥) → same a b ≡ false
 other-read w a b i n = unequal-same a b (λ e. n (ap (λ (z : Bytes). readLe w z i) e))
-
--- what was put as a field is read there
-pub read-put : (w : ℕ) (s : Bytes) (at n : ℕ) → at ≤ length s → n < 256 ^ w → readLe w (put s at (le w n)) at ≡ n
-unfolding put
-read-put w s at n l h = read-at w (take at s) (drop (at + length (le w n)) s) n at (length-take-le at s l) h
-
--- a field before what was put stays
-pub read-put-before : (w : ℕ) (s bs : Bytes) (at i : ℕ) → i + w ≤ at → at ≤ length s → readLe w (put s at bs) i ≡ readLe w s i
-read-put-before w s bs at i h l = cc (read-part w (put s at bs) i, read-part w s i, part-put-before s bs at i w h l)
-
--- a field after what was put stays
-pub read-put-after : (w : ℕ) (s bs : Bytes) (at i : ℕ) → at + length bs ≤ i → at ≤ length s → readLe w (put s at bs) i ≡ readLe w s i
-read-put-after w s bs at i h l = cc (read-part w (put s at bs) i, read-part w s i, part-put-after s bs at i w h l)

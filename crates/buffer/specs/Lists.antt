@@ -6,7 +6,7 @@ use Prim.Native.Nat.{ℕ, zero, suc, _+_, _-_, _≤_}
 use native.Mathlib.Omega.{arith}
 use native.Mathlib.Nat.{zero-add, suc-add}
 use lib.ListN.{length, getD, take, drop, replicate, length-replicate, replicate-append-replicate}
-use lib.Seq.{take-nil, take-at, drop-at, take-append-add, drop-append-add, getD-drop}
+use lib.Seq.{take-nil, drop-at, take-append-add, drop-append-add, getD-drop}
 
 module _ {ℓ} {A : Type ℓ} where
   -- a front of a front without its own front is a part in the middle

@@ -1,7 +1,7 @@
--- An exported function that is lent the arena and the counts record, is given three numbers and some bytes, and returns a number: a walk by hand of its MIR,
--- once
--- for an invalidation and a push. It calls the function that does the work, which gets the arena for good, then `statistics::increase`, which gets the record
--- (Increase.antt), and returns the number. Of the function that does the work all that is known is that it meets its contract. Assumes nothing.
+-- An exported function that is lent the arena and the counts record, is given three numbers and some bytes, and returns a number: a walk by hand of its
+-- MIR, once for an invalidation and a push. It calls the function that does the work, which gets the arena for good, then `statistics::increase`, which
+-- gets the record (Increase.antt), and returns the number. Of the function that does the work all that is known is that it meets its contract. Assumes
+-- nothing.
 use mathlib.Core.Path.{_≡_, refl, ap}
 use Prim.Native.Nat.{ℕ, _<_, _^_}
 use mathlib.Core.List.{[], _∷_, List}

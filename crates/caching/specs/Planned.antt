@@ -26,9 +26,8 @@ planReturn (wrote n m c) = record { cause = causeOf (wrote n m c); at = 0; plan 
 abbrev pub planBy : ℕ → ℕ → ℕ → ℕ → ℕ → Bytes → Bytes → Bytes → Bytes → Counts → ℕ → Left
 planBy size mode ttl clock epoch bytes d f s lent next = planCall size mode ttl clock epoch bytes d f (holding s lent next)
 
--- a planning that was lent the record `was` returned r and left the arena s, the plan buffer d and the send buffer f, as x says; and the record increased by
--- what
--- is added is what x says
+-- a planning that was lent the record `was` returned r and left the arena s, the plan buffer d and the send buffer f, as x says; and the record increased
+-- by what is added is what x says
 pub record PlanLeft (x : Left) (s d f : Bytes) (was : Statistics) (r : PlanAdded) : Type 0 where
   pub answer : r .answer ≡ planReturn (x .returned)
   pub arena : s ≡ x .held .arena

@@ -16,9 +16,8 @@ use single_calls::NewCache;
 use statistics::CacheStatistics;
 use statistics::Statistics;
 ghost use mathlib.Core.Path.{_≡_};
-ghost use Prim.Native.Nat.{ℕ, _+_, _≤_};
+ghost use Prim.Native.Nat.{ℕ, _+_};
 ghost use lib.ListN.{length};
-ghost use Rattle.buffer.specs.Part.{part};
 ghost use Rattle.config.specs.Config.{checked};
 ghost use Rattle.statistics.specs.Counts.{reading};
 ghost use Rattle.book.specs.Book.{Counts};
@@ -26,7 +25,7 @@ ghost use Rattle.book.specs.Counts.{Counted};
 ghost use Rattle.single_calls.specs.Setup.{setUp, freshArena};
 ghost use Rattle.single_calls.specs.Answers.{countsOf, answerNumber, FoundIn};
 ghost use Rattle.caching.specs.Added.{noneYet, addedBy, AddedLeft, LookupGiven};
-ghost use Rattle.caching.specs.Place.{placeBy};
+ghost use Rattle.caching.specs.Place.{placeBy, PartAt};
 ghost use Rattle.caching.specs.Exported.{setupReturn, flagOf, bytesOf, lookupReturn, startOf, servedBytes, lookupBy, storeBy, invalidateBy};
 
 // What setup returns: the number of the cause that refuses it, or 0; the epoch taken; the next epoch number.
@@ -162,15 +161,19 @@ pub extern "C" fn redis_cache_store(
     value: &[u8],
     expiry: u64,
 ) -> u64
-    ensures answer { λ r. ⌜ ((lent : Counts) (next : ℕ) → r ≡ storeBy size mode ttl epoch (now (key .entry)) (now (command .entry)) (now (value .entry)) expiry (now (arena .entry)) lent next .cause) ⌝ }
-    ensures bytes { λ _. ⌜ ((lent : Counts) (next : ℕ) → now (arena .exit) ≡ storeBy size mode ttl epoch (now (key .entry)) (now (command .entry)) (now (value .entry)) expiry (now (arena .entry)) lent next .held .arena) ⌝ }
+    ensures answer { λ r. ⌜ ((lent : Counts) (next : ℕ) →
+        r ≡ storeBy size mode ttl epoch (now (key .entry)) (now (command .entry)) (now (value .entry)) expiry (now (arena .entry)) lent next .cause) ⌝ }
+    ensures bytes { λ _. ⌜ ((lent : Counts) (next : ℕ) →
+        now (arena .exit) ≡ storeBy size mode ttl epoch (now (key .entry)) (now (command .entry)) (now (value .entry)) expiry
+        (now (arena .entry)) lent next .held .arena) ⌝ }
 {
     answer_number(single_calls::store(arena, size, mode, ttl, epoch, key, command, value, expiry))
 }
 
 // Drops the key's item, and tells what that adds to the counts.
 fn invalidate_counting(arena: &mut [u8], size: u64, mode: u64, ttl: u64, key: &[u8]) -> Added
-    ensures { λ r. ⌜ ((was : Statistics) (next : ℕ) → Counted (countsOf was) → AddedLeft (invalidateBy size mode ttl (now (key .entry)) (now (arena .entry)) (countsOf was) next) (now (arena .exit)) was r) ⌝ }
+    ensures { λ r. ⌜ ((was : Statistics) (next : ℕ) → Counted (countsOf was) →
+        AddedLeft (invalidateBy size mode ttl (now (key .entry)) (now (arena .entry)) (countsOf was) next) (now (arena .exit)) was r) ⌝ }
 {
     comes_to(single_calls::invalidate(arena, size, mode, ttl, key, none_yet()))
 }
@@ -185,9 +188,13 @@ pub extern "C" fn redis_cache_invalidate(
     key: &[u8],
     counts: &mut Statistics,
 ) -> u64
-    ensures answer { λ r. ⌜ ((next : ℕ) → r ≡ invalidateBy size mode ttl (now (key .entry)) (now (arena .entry)) (countsOf (now (counts .entry))) next .cause) ⌝ }
-    ensures bytes { λ _. ⌜ ((next : ℕ) → now (arena .exit) ≡ invalidateBy size mode ttl (now (key .entry)) (now (arena .entry)) (countsOf (now (counts .entry))) next .held .arena) ⌝ }
-    ensures counts { λ _. ⌜ ((next : ℕ) → countsOf (now (counts .exit)) ≡ invalidateBy size mode ttl (now (key .entry)) (now (arena .entry)) (countsOf (now (counts .entry))) next .held .counts) ⌝ }
+    ensures answer { λ r. ⌜ ((next : ℕ) →
+        r ≡ invalidateBy size mode ttl (now (key .entry)) (now (arena .entry)) (countsOf (now (counts .entry))) next .cause) ⌝ }
+    ensures bytes { λ _. ⌜ ((next : ℕ) →
+        now (arena .exit) ≡ invalidateBy size mode ttl (now (key .entry)) (now (arena .entry)) (countsOf (now (counts .entry))) next .held .arena) ⌝ }
+    ensures counts { λ _. ⌜ ((next : ℕ) →
+        countsOf (now (counts .exit)) ≡ invalidateBy size mode ttl (now (key .entry))
+        (now (arena .entry)) (countsOf (now (counts .entry))) next .held .counts) ⌝ }
 {
     let r = invalidate_counting(arena, size, mode, ttl, key);
     statistics::increase(counts, r.adds);
@@ -207,8 +214,12 @@ fn lookup_counting<'a>(
     value: &mut &'a [u8],
     whole: &mut &'a [u8],
 ) -> LookupAdded
-    ensures given { λ r. ⌜ ((was : Statistics) (next : ℕ) → Counted (countsOf was) → LookupGiven (lookupBy size mode ttl clock epoch (now (key .entry)) (now (command .entry)) (now (arena .entry)) (countsOf was) next) (now (now (value .exit))) (now (now (whole .exit))) was r) ⌝ }
-    ensures is_part { λ _. ⌜ ((lent : Counts) (next : ℕ) → (now (value .exit) .ptr .0 ≡ arena .entry .ptr .0) × (now (value .exit) .ptr .1 ≡ placeBy size mode ttl clock epoch (now (key .entry)) (now (command .entry)) (now (arena .entry)) lent next + arena .entry .ptr .1) × (placeBy size mode ttl clock epoch (now (key .entry)) (now (command .entry)) (now (arena .entry)) lent next + length (now (now (value .exit))) ≤ length (now (arena .entry))) × (now (now (value .exit)) ≡ part (now (now (whole .exit))) (placeBy size mode ttl clock epoch (now (key .entry)) (now (command .entry)) (now (arena .entry)) lent next) (length (now (now (value .exit)))))) ⌝ }
+    ensures given { λ r. ⌜ ((was : Statistics) (next : ℕ) → Counted (countsOf was) →
+        LookupGiven (lookupBy size mode ttl clock epoch (now (key .entry)) (now (command .entry))
+        (now (arena .entry)) (countsOf was) next) (now (now (value .exit))) (now (now (whole .exit))) was r) ⌝ }
+    ensures is_part { λ _. ⌜ ((lent : Counts) (next : ℕ) →
+        PartAt (placeBy size mode ttl clock epoch (now (key .entry)) (now (command .entry)) (now (arena .entry)) lent next)
+        (now (value .exit) .ptr) (now (now (value .exit))) (arena .entry .ptr) (length (now (arena .entry))) (now (now (whole .exit)))) ⌝ }
     ensures is_arena { λ _. ⌜ now (whole .exit) .ptr ≡ arena .entry .ptr ⌝ }
 {
     let none = none_yet();
@@ -241,12 +252,24 @@ pub extern "C" fn redis_cache_lookup<'a>(
     value: &mut &'a [u8],
     whole: &mut &'a [u8],
 ) -> RedisCacheLookup
-    ensures answer { λ r. ⌜ ((next : ℕ) → (r .cause ≡ lookupBy size mode ttl clock epoch (now (key .entry)) (now (command .entry)) (now (arena .entry)) (countsOf (now (counts .entry))) next .cause) × (r .hit ≡ flagOf (lookupBy size mode ttl clock epoch (now (key .entry)) (now (command .entry)) (now (arena .entry)) (countsOf (now (counts .entry))) next .value))) ⌝ }
-    ensures served { λ _. ⌜ ((next : ℕ) → now (now (value .exit)) ≡ bytesOf (lookupBy size mode ttl clock epoch (now (key .entry)) (now (command .entry)) (now (arena .entry)) (countsOf (now (counts .entry))) next .value)) ⌝ }
-    ensures is_part { λ _. ⌜ ((lent : Counts) (next : ℕ) → (now (value .exit) .ptr .0 ≡ arena .entry .ptr .0) × (now (value .exit) .ptr .1 ≡ placeBy size mode ttl clock epoch (now (key .entry)) (now (command .entry)) (now (arena .entry)) lent next + arena .entry .ptr .1) × (placeBy size mode ttl clock epoch (now (key .entry)) (now (command .entry)) (now (arena .entry)) lent next + length (now (now (value .exit))) ≤ length (now (arena .entry))) × (now (now (value .exit)) ≡ part (now (now (whole .exit))) (placeBy size mode ttl clock epoch (now (key .entry)) (now (command .entry)) (now (arena .entry)) lent next) (length (now (now (value .exit)))))) ⌝ }
+    ensures answer { λ r. ⌜ ((next : ℕ) →
+        (r .cause ≡ lookupBy size mode ttl clock epoch (now (key .entry)) (now (command .entry))
+        (now (arena .entry)) (countsOf (now (counts .entry))) next .cause)
+        × (r .hit ≡ flagOf (lookupBy size mode ttl clock epoch (now (key .entry)) (now (command .entry))
+        (now (arena .entry)) (countsOf (now (counts .entry))) next .value))) ⌝ }
+    ensures served { λ _. ⌜ ((next : ℕ) →
+        now (now (value .exit)) ≡ bytesOf (lookupBy size mode ttl clock epoch (now (key .entry)) (now (command .entry))
+        (now (arena .entry)) (countsOf (now (counts .entry))) next .value)) ⌝ }
+    ensures is_part { λ _. ⌜ ((lent : Counts) (next : ℕ) →
+        PartAt (placeBy size mode ttl clock epoch (now (key .entry)) (now (command .entry)) (now (arena .entry)) lent next)
+        (now (value .exit) .ptr) (now (now (value .exit))) (arena .entry .ptr) (length (now (arena .entry))) (now (now (whole .exit)))) ⌝ }
     ensures is_arena { λ _. ⌜ now (whole .exit) .ptr ≡ arena .entry .ptr ⌝ }
-    ensures bytes { λ _. ⌜ ((next : ℕ) → now (now (whole .exit)) ≡ lookupBy size mode ttl clock epoch (now (key .entry)) (now (command .entry)) (now (arena .entry)) (countsOf (now (counts .entry))) next .held .arena) ⌝ }
-    ensures counts { λ _. ⌜ ((next : ℕ) → countsOf (now (counts .exit)) ≡ lookupBy size mode ttl clock epoch (now (key .entry)) (now (command .entry)) (now (arena .entry)) (countsOf (now (counts .entry))) next .held .counts) ⌝ }
+    ensures bytes { λ _. ⌜ ((next : ℕ) →
+        now (now (whole .exit)) ≡ lookupBy size mode ttl clock epoch (now (key .entry)) (now (command .entry))
+        (now (arena .entry)) (countsOf (now (counts .entry))) next .held .arena) ⌝ }
+    ensures counts { λ _. ⌜ ((next : ℕ) →
+        countsOf (now (counts .exit)) ≡ lookupBy size mode ttl clock epoch (now (key .entry)) (now (command .entry))
+        (now (arena .entry)) (countsOf (now (counts .entry))) next .held .counts) ⌝ }
 {
     let r = lookup_counting(
         arena,

@@ -72,7 +72,9 @@ fn plan_counting(
     plan: &mut [u8],
     send: &mut [u8],
 ) -> PlanAdded
-    ensures { λ r. ⌜ ((was : Statistics) (next : ℕ) → Counted (countsOf was) → PlanLeft (planBy size mode ttl clock epoch (now (bytes .entry)) (now (plan .entry)) (now (send .entry)) (now (arena .entry)) (countsOf was) next) (now (arena .exit)) (now (plan .exit)) (now (send .exit)) was r) ⌝ }
+    ensures { λ r. ⌜ ((was : Statistics) (next : ℕ) → Counted (countsOf was) →
+        PlanLeft (planBy size mode ttl clock epoch (now (bytes .entry)) (now (plan .entry)) (now (send .entry))
+        (now (arena .entry)) (countsOf was) next) (now (arena .exit)) (now (plan .exit)) (now (send .exit)) was r) ⌝ }
 {
     let none = none_yet();
     let when = Now { clock, epoch };
@@ -109,11 +111,21 @@ pub extern "C" fn redis_cache_plan(
     plan: &mut [u8],
     send: &mut [u8],
 ) -> RedisCachePlan
-    ensures answer { λ r. ⌜ ((next : ℕ) → r ≡ planReturn (planBy size mode ttl clock epoch (now (bytes .entry)) (now (plan .entry)) (now (send .entry)) (now (arena .entry)) (countsOf (now (counts .entry))) next .returned)) ⌝ }
-    ensures arena { λ _. ⌜ ((next : ℕ) → now (arena .exit) ≡ planBy size mode ttl clock epoch (now (bytes .entry)) (now (plan .entry)) (now (send .entry)) (now (arena .entry)) (countsOf (now (counts .entry))) next .held .arena) ⌝ }
-    ensures counts { λ _. ⌜ ((next : ℕ) → countsOf (now (counts .exit)) ≡ planBy size mode ttl clock epoch (now (bytes .entry)) (now (plan .entry)) (now (send .entry)) (now (arena .entry)) (countsOf (now (counts .entry))) next .held .counts) ⌝ }
-    ensures plan { λ _. ⌜ ((next : ℕ) → now (plan .exit) ≡ planBy size mode ttl clock epoch (now (bytes .entry)) (now (plan .entry)) (now (send .entry)) (now (arena .entry)) (countsOf (now (counts .entry))) next .plan) ⌝ }
-    ensures send { λ _. ⌜ ((next : ℕ) → now (send .exit) ≡ planBy size mode ttl clock epoch (now (bytes .entry)) (now (plan .entry)) (now (send .entry)) (now (arena .entry)) (countsOf (now (counts .entry))) next .send) ⌝ }
+    ensures answer { λ r. ⌜ ((next : ℕ) →
+        r ≡ planReturn (planBy size mode ttl clock epoch (now (bytes .entry)) (now (plan .entry)) (now (send .entry))
+        (now (arena .entry)) (countsOf (now (counts .entry))) next .returned)) ⌝ }
+    ensures arena { λ _. ⌜ ((next : ℕ) →
+        now (arena .exit) ≡ planBy size mode ttl clock epoch (now (bytes .entry)) (now (plan .entry)) (now (send .entry))
+        (now (arena .entry)) (countsOf (now (counts .entry))) next .held .arena) ⌝ }
+    ensures counts { λ _. ⌜ ((next : ℕ) →
+        countsOf (now (counts .exit)) ≡ planBy size mode ttl clock epoch (now (bytes .entry)) (now (plan .entry)) (now (send .entry))
+        (now (arena .entry)) (countsOf (now (counts .entry))) next .held .counts) ⌝ }
+    ensures plan { λ _. ⌜ ((next : ℕ) →
+        now (plan .exit) ≡ planBy size mode ttl clock epoch (now (bytes .entry)) (now (plan .entry)) (now (send .entry))
+        (now (arena .entry)) (countsOf (now (counts .entry))) next .plan) ⌝ }
+    ensures send { λ _. ⌜ ((next : ℕ) →
+        now (send .exit) ≡ planBy size mode ttl clock epoch (now (bytes .entry)) (now (plan .entry)) (now (send .entry))
+        (now (arena .entry)) (countsOf (now (counts .entry))) next .send) ⌝ }
 {
     let r = plan_counting(arena, size, mode, ttl, clock, epoch, bytes, plan, send);
     statistics::increase(counts, r.adds);

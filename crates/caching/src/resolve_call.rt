@@ -44,9 +44,15 @@ pub extern "C" fn redis_cache_resolve<'a>(
     replies: &'a [u8],
     answer: &mut [u8],
 ) -> RedisCacheResolve
-    ensures answer { λ r. ⌜ ((lent : Counts) (next : ℕ) → r ≡ resolveReturn (resolveBy size mode ttl clock epoch (now (plan .entry)) (now (replies .entry)) (now (answer .entry)) (now (arena .entry)) lent next)) ⌝ }
-    ensures arena { λ _. ⌜ ((lent : Counts) (next : ℕ) → now (arena .exit) ≡ resolveBy size mode ttl clock epoch (now (plan .entry)) (now (replies .entry)) (now (answer .entry)) (now (arena .entry)) lent next .held .arena) ⌝ }
-    ensures buffer { λ _. ⌜ ((lent : Counts) (next : ℕ) → now (answer .exit) ≡ resolveBy size mode ttl clock epoch (now (plan .entry)) (now (replies .entry)) (now (answer .entry)) (now (arena .entry)) lent next .buffer) ⌝ }
+    ensures answer { λ r. ⌜ ((lent : Counts) (next : ℕ) →
+        r ≡ resolveReturn (resolveBy size mode ttl clock epoch (now (plan .entry)) (now (replies .entry)) (now (answer .entry))
+        (now (arena .entry)) lent next)) ⌝ }
+    ensures arena { λ _. ⌜ ((lent : Counts) (next : ℕ) →
+        now (arena .exit) ≡ resolveBy size mode ttl clock epoch (now (plan .entry)) (now (replies .entry)) (now (answer .entry))
+        (now (arena .entry)) lent next .held .arena) ⌝ }
+    ensures buffer { λ _. ⌜ ((lent : Counts) (next : ℕ) →
+        now (answer .exit) ≡ resolveBy size mode ttl clock epoch (now (plan .entry)) (now (replies .entry)) (now (answer .entry))
+        (now (arena .entry)) lent next .buffer) ⌝ }
 {
     resolve_return(caching_cmd::resolve(
         arena,

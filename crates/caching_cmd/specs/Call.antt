@@ -91,7 +91,7 @@ resolvedOn p rows transaction epoch v buffer h =
     returning (answerOf p transaction epoch v (length buffer) (bookOf rows h)) (bufferAfter transaction v buffer)
     (lend p (length (h .arena)) (afterCall p (toldTo transaction epoch v (length buffer)) (bookOf rows h)))
 
--- ---- The causes in the order of rule C12: 1, 9, 10, 6, and then 7 and 8 as above
+-- ---- the causes in the order of rule C12: 1, 9, 10 and 6, before 7 and 8
 
 unfoldable pub planned : Settings → (ℕ → Row) → Option nodes.Plan → Bytes → ℕ → ℕ → Bytes → Held → ResolveReturn
 planned g rows none replies clock epoch buffer h = refusedAs badPlan buffer h

@@ -66,7 +66,7 @@ abbrev pub StoredIf : Settings → ℕ → Bytes → Bytes → Walk → ℕ → 
 StoredIf g epoch p s c clock true old new n = StorePass g epoch p s c (g .mode) clock old new n
 StoredIf g epoch p s c clock false old new n = (new ≡ old) × (n ≡ 0)
 
--- 7: "stores of earlier commands remain"; 8 leaves all as it was
+-- where 7 refuses, what was stored before stays; 8 leaves all as it was
 abbrev pub isKept : Dry → Bool
 isKept Wrong = true
 isKept Short = false

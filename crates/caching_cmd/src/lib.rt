@@ -18,8 +18,10 @@ ghost use Rattle.sharded_lru.specs.Lent.{Arena};
 ghost use Rattle.plan.specs.Decode.{readPlan, isPlan};
 ghost use Rattle.resolving_walk.specs.Same.{resultHead};
 ghost use Rattle.resolving_passes.specs.Passes.{Begins, Fine};
+ghost use Rattle.call_entry.specs.Entered.{holding};
 ghost use Rattle.caching_cmd.specs.Call.{resolveCall, Comes};
-ghost use Rattle.caching_cmd.specs.Parts.{startAt, Finds, Listed, StoredIf, StoredFor, ShapeRefused, AllWritten, ListResolved, CheckedResolved, AdmittedResolved};
+ghost use Rattle.caching_cmd.specs.Parts.{startAt, Finds, Listed, StoredIf, StoredFor, ShapeRefused, AllWritten};
+ghost use Rattle.caching_cmd.specs.Parts.{ListResolved, CheckedResolved, AdmittedResolved};
 
 // What resolving comes to.
 pub enum ResolveAnswer {
@@ -174,7 +176,8 @@ fn write_result<'a>(
     answer: &mut [u8],
     refused: u64,
 ) -> ResolveAnswer
-    requires { ⌜ Begins (now plan) (now list) start × (length (resultHead transaction n) ≤ length (now answer)) × Fine (now plan) (now list) start (g .mode) clock (length (resultHead transaction n)) (length (now answer)) ⌝ }
+    requires { ⌜ Begins (now plan) (now list) start × (length (resultHead transaction n) ≤ length (now answer))
+        × Fine (now plan) (now list) start (g .mode) clock (length (resultHead transaction n)) (length (now answer)) ⌝ }
     ensures { λ r. ⌜ AllWritten g (now (plan .entry)) (now (list .entry)) start clock transaction n refused (now (answer .entry)) (now (answer .exit)) r ⌝ }
 {
     let mode = g.mode;
@@ -195,7 +198,8 @@ fn resolve_list<'a>(
     answer: &mut [u8],
 ) -> ResolveAnswer
     requires { ⌜ Arena g (now arena) × (isPlan (now plan) ≡ true) × Listed (now list) first ⌝ }
-    ensures { λ r. ⌜ ListResolved g epoch (now (plan .entry)) (now (list .entry)) first clock (now (arena .entry)) (now (arena .exit)) (now (answer .entry)) (now (answer .exit)) r ⌝ }
+    ensures { λ r. ⌜ ListResolved g epoch (now (plan .entry)) (now (list .entry)) first clock (now (arena .entry)) (now (arena .exit))
+        (now (answer .entry)) (now (answer .exit)) r ⌝ }
 {
     let mode = g.mode;
     let start = start_at(first);
@@ -226,7 +230,8 @@ fn resolve_checked<'a>(
     answer: &mut [u8],
 ) -> ResolveAnswer
     requires { ⌜ Arena g (now arena) × (isPlan (now plan) ≡ true) × (isValue (now replies) ≡ true) ⌝ }
-    ensures { λ r. ⌜ CheckedResolved g epoch (now (plan .entry)) (now (replies .entry)) clock (now (arena .entry)) (now (arena .exit)) (now (answer .entry)) (now (answer .exit)) r ⌝ }
+    ensures { λ r. ⌜ CheckedResolved g epoch (now (plan .entry)) (now (replies .entry)) clock (now (arena .entry)) (now (arena .exit))
+        (now (answer .entry)) (now (answer .exit)) r ⌝ }
 {
     match find_list(replies, is_transaction(plan)) {
         Found::No => {
@@ -258,7 +263,8 @@ fn resolve_admitted<'a>(
     answer: &mut [u8],
 ) -> ResolveAnswer
     requires { ⌜ Arena g (now arena) ⌝ }
-    ensures { λ r. ⌜ AdmittedResolved g epoch (now (plan .entry)) (now (replies .entry)) clock (now (arena .entry)) (now (arena .exit)) (now (answer .entry)) (now (answer .exit)) r ⌝ }
+    ensures { λ r. ⌜ AdmittedResolved g epoch (now (plan .entry)) (now (replies .entry)) clock (now (arena .entry)) (now (arena .exit))
+        (now (answer .entry)) (now (answer .exit)) r ⌝ }
 {
     if !plan_check::is_plan(plan) {
         return ResolveAnswer::Refused(config::BAD_PLAN);
@@ -281,7 +287,9 @@ pub fn resolve<'a>(
     epoch: u64,
     answer: &mut [u8],
 ) -> ResolveAnswer
-    ensures { λ r. ⌜ ((counts : Counts) (next : ℕ) → Comes (resolveCall size mode ttl (now (plan .entry)) (now (replies .entry)) clock epoch (now (answer .entry)) (record { arena = now (arena .entry); counts = counts; next = next })) r (now (arena .exit)) (now (answer .exit))) ⌝ }
+    ensures { λ r. ⌜ ((counts : Counts) (next : ℕ) →
+        Comes (resolveCall size mode ttl (now (plan .entry)) (now (replies .entry)) clock epoch (now (answer .entry))
+        (holding (now (arena .entry)) counts next)) r (now (arena .exit)) (now (answer .exit))) ⌝ }
 {
     match sharded_lru::admit(arena, size, mode, ttl) {
         Admitted::Refused(n) => ResolveAnswer::Refused(n),

@@ -13,7 +13,6 @@ use cursor::Range;
 use libc::STDIN_FILENO;
 use libc::STDOUT_FILENO;
 ghost use Prim.Native.Nat.{_≤_};
-ghost use lib.ListN.{length};
 ghost use Rattle.cursor.specs.At.{RangeIn, ArgsHere, CommandsHere};
 
 fn put(s: &[u8]) {
@@ -247,21 +246,6 @@ fn unhex(line: &[u8], at: usize, out: &mut [u8]) -> usize {
     n
 }
 
-// Where the line that starts at `at` ends.
-fn line_end(s: &[u8], at: usize) -> usize
-    requires { ⌜ at ≤ length (now s) ⌝ }
-    ensures { λ r. ⌜ (at ≤ r) × (r ≤ length (now (s .entry))) ⌝ }
-{
-    let mut i = at;
-    while i < s.len() {
-        if s[i] == b'\n' {
-            return i;
-        }
-        i += 1;
-    }
-    i
-}
-
 // The bytes that the first n of a buffer are.
 fn show_front(out: &[u8], n: usize) {
     if n <= out.len() {
@@ -279,7 +263,7 @@ fn show_line(s: &[u8], at: usize) {
 fn show_lines(s: &[u8]) {
     let mut at = 0;
     while at < s.len() {
-        let end = line_end(s, at);
+        let end = vectors_lines::line_end(s, at);
         show_line(s, at);
         if end == s.len() {
             return;

@@ -3,10 +3,9 @@
 // of the buffer as it was, and answers the place behind them.
 use cursor::Args;
 ghost use mathlib.Core.Path.{_≡_};
-ghost use Prim.Native.Nat.{ℕ, _+_, _*_, _≤_};
+ghost use Prim.Native.Nat.{ℕ, _+_, _≤_};
 ghost use lib.ListN.{length};
 ghost use Rattle.buffer.specs.Part.{put};
-ghost use Rattle.buffer.specs.Same.{Bytes};
 ghost use Rattle.config.specs.Limits.{maxBytes, maxArguments};
 ghost use Rattle.decimal.specs.Digits.{digits};
 ghost use Rattle.cursor.specs.At.{argAt, argsOf, ArgIn, ArgsHere};
@@ -49,7 +48,8 @@ pub fn write_number(dst: &mut [u8], to: usize, v: u64) -> usize
 // The argument at `at`, as a blob.
 fn write_argument(s: &[u8], at: usize, cursor: u64, dst: &mut [u8], to: usize) -> usize
     requires { ⌜ ArgIn (now s) at × (to + length (blob (sent cursor (argAt (now s) at))) ≤ length (now dst)) ⌝ }
-    ensures { λ r. ⌜ (r ≡ to + length (blob (sent cursor (argAt (now (s .entry)) at)))) × (now (dst .exit) ≡ put (now (dst .entry)) to (blob (sent cursor (argAt (now (s .entry)) at)))) ⌝ }
+    ensures { λ r. ⌜ (r ≡ to + length (blob (sent cursor (argAt (now (s .entry)) at))))
+        × (now (dst .exit) ≡ put (now (dst .entry)) to (blob (sent cursor (argAt (now (s .entry)) at)))) ⌝ }
 {
     if s[at] == 0 {
         let n = buffer::read_u32(s, at + 1) as usize;
@@ -64,7 +64,8 @@ fn write_argument(s: &[u8], at: usize, cursor: u64, dst: &mut [u8], to: usize) -
 // The arguments before the cursor k, as blobs.
 fn write_arguments(s: &[u8], k: Args, cursor: u64, dst: &mut [u8], to: usize) -> usize
     requires { ⌜ ArgsHere (now s) k × (to + length (blobBytes (texts cursor (argsOf (now s) k))) ≤ length (now dst)) ⌝ }
-    ensures { λ r. ⌜ (r ≡ to + length (blobBytes (texts cursor (argsOf (now (s .entry)) k)))) × (now (dst .exit) ≡ put (now (dst .entry)) to (blobBytes (texts cursor (argsOf (now (s .entry)) k)))) ⌝ }
+    ensures { λ r. ⌜ (r ≡ to + length (blobBytes (texts cursor (argsOf (now (s .entry)) k))))
+        × (now (dst .exit) ≡ put (now (dst .entry)) to (blobBytes (texts cursor (argsOf (now (s .entry)) k)))) ⌝ }
 {
     let mut at = k.at;
     let mut left = k.left;
@@ -80,7 +81,8 @@ fn write_arguments(s: &[u8], k: Args, cursor: u64, dst: &mut [u8], to: usize) ->
 // A command of a record: the arguments before k, under its cursor.
 pub fn write_command(s: &[u8], k: Args, cursor: u64, dst: &mut [u8], to: usize) -> usize
     requires { ⌜ ArgsHere (now s) k × (to + length (packed (texts cursor (argsOf (now s) k))) ≤ length (now dst)) ⌝ }
-    ensures { λ r. ⌜ (r ≡ to + length (packed (texts cursor (argsOf (now (s .entry)) k)))) × (now (dst .exit) ≡ put (now (dst .entry)) to (packed (texts cursor (argsOf (now (s .entry)) k)))) ⌝ }
+    ensures { λ r. ⌜ (r ≡ to + length (packed (texts cursor (argsOf (now (s .entry)) k))))
+        × (now (dst .exit) ≡ put (now (dst .entry)) to (packed (texts cursor (argsOf (now (s .entry)) k)))) ⌝ }
 {
     let e = write_head(dst, to, b'*', k.left as u64);
     write_arguments(s, k, cursor, dst, e)
@@ -132,7 +134,8 @@ pub fn args_len(s: &[u8], k: Args, cursor: u64) -> usize
 // `PTTL` and a key.
 pub fn write_pttl(dst: &mut [u8], to: usize, key: &[u8]) -> usize
     requires { ⌜ to + length (packed (pttlTexts (now key))) ≤ length (now dst) ⌝ }
-    ensures { λ r. ⌜ (r ≡ to + length (packed (pttlTexts (now (key .entry))))) × (now (dst .exit) ≡ put (now (dst .entry)) to (packed (pttlTexts (now (key .entry))))) ⌝ }
+    ensures { λ r. ⌜ (r ≡ to + length (packed (pttlTexts (now (key .entry)))))
+        × (now (dst .exit) ≡ put (now (dst .entry)) to (packed (pttlTexts (now (key .entry))))) ⌝ }
 {
     buffer::copy_to(dst, to, b"*2\r\n$4\r\nPTTL\r\n");
     write_blob(dst, to + 14, key)

@@ -3,8 +3,6 @@
 use commands::MultiKey;
 use libc::STDIN_FILENO;
 use libc::STDOUT_FILENO;
-ghost use Prim.Native.Nat.{_≤_};
-ghost use lib.ListN.{length};
 
 // A line of the output, or none.
 fn show(word: &[u8]) {
@@ -23,26 +21,11 @@ fn show(word: &[u8]) {
     }
 }
 
-// Where the line that starts at at ends.
-fn line_end(s: &[u8], at: usize) -> usize
-    requires { ⌜ at ≤ length (now s) ⌝ }
-    ensures { λ r. ⌜ (at ≤ r) × (r ≤ length (now (s .entry))) ⌝ }
-{
-    let mut i = at;
-    while i < s.len() {
-        if s[i] == b'\n' {
-            return i;
-        }
-        i += 1;
-    }
-    i
-}
-
 // A line of the output for each line that has one.
 fn show_lines(s: &[u8]) {
     let mut at = 0;
     while at < s.len() {
-        let end = line_end(s, at);
+        let end = vectors_lines::line_end(s, at);
         show(&s[at..end]);
         if end == s.len() {
             return;

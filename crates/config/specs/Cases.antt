@@ -1,6 +1,6 @@
 -- The joint table's sizes, and cause 1 at its borders. Assumes nothing.
 use mathlib.Core.Path.{_≡_, refl}
-use Prim.Native.Nat.{ℕ, _+_, _-_}
+use Prim.Native.Nat.{ℕ, _+_}
 use mathlib.Core.Bool.{true, false}
 use Rattle.config.specs.Limits.{maxSize, maxArena}
 use Rattle.config.specs.Config.{shardCount, shardSize, refused}

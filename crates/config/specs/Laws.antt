@@ -1,14 +1,13 @@
 -- What holds of the shards of any size, and of settings that cause 1 lets through: the bounds that callers work with. Assumes nothing.
-use mathlib.Core.Path.{_≡_, refl, sym, _∙_}
-use Prim.Native.Nat.{ℕ, _*_, _/_, _≤_, _<_}
+use mathlib.Core.Path.{_≡_, refl, sym}
+use Prim.Native.Nat.{ℕ, _*_, _/_, _≤_}
 use mathlib.Core.Bool.{Bool, true, false, cond, _||_, false≢true}
 use native.Mathlib.Omega.{arith}
 use borrow.Author.Tests.{ltb-false}
 use lib.Dec.{ltb}
-use Rattle.config.specs.Limits.{maxSize, maxMode, maxArena, maxShards, minShardBytes}
+use Rattle.config.specs.Limits.{maxSize, maxArena, maxShards, minShardBytes}
 use Rattle.config.specs.Config.{shardCount, shardSize, shardBytes, refused, settingsOf, checked}
 use Rattle.config.specs.declared.Settings.{Settings}
-use Rattle.config.specs.declared.CheckedConfig.{CheckedConfig}
 use Rattle.config.specs.declared.CheckedConfig.the-variants.{Fine, Refused}
 
 -- at least one shard and at most 32

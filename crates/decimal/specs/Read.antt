@@ -44,7 +44,7 @@ endedDef s e v = numIf (crlfB s e) (Val v (e + 2)) Bad
 unfoldable pub finDef : ℕ → List ℕ → ℕ → ℕ → Num
 finDef lim s e v = numIf (leb v lim) (endedDef s e v) Bad
 
--- the number at at: a `0` alone, or all the digits that stand there, at least one
+-- the number at `at`: a `0` alone, or all the digits that stand there, at least one
 unfoldable pub numDef : ℕ → List ℕ → ℕ → Num
 numDef lim s at =
     numIf (eqb (getD s at 0) 48)

@@ -31,7 +31,7 @@ pub fn countdigits(v: u64) -> usize
     }
 }
 
-// Writes v's digits at at, and answers the place after them.
+// Writes v's digits at `at`, and answers the place after them.
 pub fn write_digits(dst: &mut [u8], at: usize, v: u64) -> usize
     requires { ⌜ at + length (digits v) ≤ length (now dst) ⌝ }
     ensures { λ r. ⌜ (r ≡ at + length (digits v)) × (now (dst .exit) ≡ put (now (dst .entry)) at (digits v)) ⌝ }
@@ -101,7 +101,7 @@ fn ended(s: &[u8], e: usize, v: u64) -> Num
     }
 }
 
-// Reads the number at at, of any number of digits: no plus sign, no leading zero, at most lim, CR LF behind it.
+// Reads the number at `at`, of any number of digits: no plus sign, no leading zero, at most lim, CR LF behind it.
 pub fn read_num(s: &[u8], at: usize, lim: u64) -> Num
     ensures { λ r. ⌜ r ≡ numDef lim (now (s .entry)) at ⌝ }
 {

@@ -22,9 +22,8 @@ use Rattle.plan.specs.Decode.{goodNode, isPlan, decodePlan, decode-defs}
 
 -- one name that opens all that these cases compute
 unfoldable case-defs : Unit {0}
-unfolding
-    decode-defs plan-defs order-defs every same le readLe part encode digits isValue valueEnd headAt bodyHead iter booleanEnd numberEnd verbatimEnd blobEnd lineEnd
-    plain plainB crlfEnd lengthAt kindOf numDef finDef endedDef crlfB
+unfolding decode-defs plan-defs order-defs every same le readLe part encode digits isValue valueEnd headAt bodyHead iter booleanEnd numberEnd verbatimEnd
+    blobEnd lineEnd plain plainB crlfEnd lengthAt kindOf numDef finDef endedDef crlfB
 case-defs = tt
 
 -- flags, `_`, count

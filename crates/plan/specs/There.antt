@@ -85,10 +85,6 @@ pub record NodeAt (s : Bytes) (at : ℕ) (nd : Node) (r : Bytes) : Type 0 where
   pub good : GoodNode nd
   pub is : drop at s ≡ encNode nd ++ r
 
--- where the nodes before it have so many bytes
-pub behind-front : (front : Bytes) (nd : Node) (r : Bytes) → GoodNode nd → NodeAt (front ++ (encNode nd ++ r)) (length front) nd r
-behind-front front nd r g = record { good = g; is = drop-at front (encNode nd ++ r) (length front) refl }
-
 -- the head that is then read
 unfoldable pub headOf : ℕ → Node → NodeHead
 headOf at nd =

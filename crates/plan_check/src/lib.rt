@@ -6,7 +6,8 @@ ghost use Prim.Native.Nat.{_≤_};
 ghost use lib.ListN.{length};
 ghost use Rattle.resp3.specs.Ends.{isValue};
 ghost use Rattle.plan.specs.Decode.{isPlan};
-ghost use Rattle.plan_check.specs.Check.{wholeAt, emptyFine, valueFine, placesFine, keyFine, headFine, asCommand, asValue, asEnd, asPlace, followed, walkedPast, finished, startFine, startAt};
+ghost use Rattle.plan_check.specs.Check.{wholeAt, emptyFine, valueFine, placesFine, keyFine, headFine, asCommand, asValue, asEnd, asPlace};
+ghost use Rattle.plan_check.specs.Check.{followed, walkedPast, finished, startFine, startAt};
 
 // Where the walk over the nodes stands, and what has to follow there: so many places of a command whose places are all served, or of several keys
 // (and then the end of several), and after them so many commands.

@@ -16,7 +16,6 @@ use Rattle.planning.specs.Outcome as outcome
 use Rattle.planning.specs.Outcome.{CachingResult, missing, outcomes}
 use Rattle.planning.specs.Plan.{Node, endOfSeveral, valueNodes, placeNodes, servedNodes, missingNodes, nodesOf, nodes, planOf, encPlan}
 use Rattle.planning.specs.Planning.{plannedBy, plannedFrom}
-use Rattle.planning.specs.Gives as gives
 use Rattle.planning.specs.Gives.{allUntil, missingOf, allMissing}
 use Rattle.planning.specs.Kept.{GoodAnswer, good-plan}
 use Rattle.planning.specs.Rules.{GoodPlan}

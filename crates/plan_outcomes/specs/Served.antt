@@ -1,7 +1,7 @@
--- No plan that planning wrote breaks a rule (C10 of docs/BEHAVIOUR.md): on well-formed rows every value that a lookup serves is a RESP3 value, so what planning writes there is a plan and is
--- read as its outcomes, with nothing assumed of the answers. Assumes that the rows are well-formed, as those of every image are, and that the record is valid.
-use mathlib.Core.Path.{_≡_, refl, sym, ap, _∙_, subst}
-use mathlib.Core.Bool.{true, false}
+-- No plan that planning wrote breaks a rule (C10 of docs/BEHAVIOUR.md): on well-formed rows every value that a lookup serves is a RESP3 value, so what
+-- planning writes there is a plan and is read as its outcomes, with nothing assumed of the answers. Assumes that the rows are well-formed, as those of
+-- every image are, and that the record is valid.
+use mathlib.Core.Path.{_≡_, refl, subst}
 use mathlib.Core.Option.{Option, none, some, Option·none-ne-some, Option·some-injective}
 use mathlib.Core.List.{List, [], _∷_}
 use Prim.Native.Nat.{ℕ, _≤_}
@@ -16,7 +16,7 @@ use Rattle.resp3.specs.Value.{IsValue}
 use Rattle.resp3.specs.Ends.{isValue}
 use Rattle.resp3.specs.Law.{value-law}
 use Rattle.call_record.specs.Record.{Record, encRecord, ValidRecord, transaction}
-use Rattle.book.specs.Book.{Setup, Entry, Item, Row, Book, Answer, hit, miss, find, without, valueFor, current, serve, lookupItem, keyOf, effectOn}
+use Rattle.book.specs.Book.{Setup, Entry, Item, Row, Book, Answer, find, without, valueFor, current, serve, lookupItem, keyOf, effectOn}
 use Rattle.book.specs.Book.{effect, answerTo}
 use Rattle.book.specs.Calls.{Wanted}
 use Rattle.book.specs.Each.{Each, each-find}
@@ -26,7 +26,7 @@ use Rattle.arena.specs.Decode.{mayStore}
 use Rattle.arena.specs.Tests.{every-yes, WellFormed}
 use Rattle.planning.specs.Ask.{ask, anyLate}
 use Rattle.planning.specs.Outcome.{wanted, outcomes}
-use Rattle.planning.specs.Planning.{Planned, PlanAnswer, because, done, plannedFrom, short, planAnswer, planOn}
+use Rattle.planning.specs.Planning.{Planned, because, done, plannedFrom, short, planAnswer, planOn}
 use Rattle.planning.specs.Kept.{GoodAnswer}
 use Rattle.plan_outcomes.specs.Law.{Read, planned-read}
 

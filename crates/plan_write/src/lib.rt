@@ -59,7 +59,8 @@ pub fn write_bare(dst: &mut [u8], to: usize, kind: u32, number: u64) -> usize
 // A served value, which is copied.
 pub fn write_served(dst: &mut [u8], to: usize, value: &[u8]) -> usize
     requires { ⌜ (to + length (nodeBytes 1 (now value) [] 0) ≤ length (now dst)) × (length (now value) ≤ maxArena) ⌝ }
-    ensures { λ r. ⌜ (r ≡ to + length (nodeBytes 1 (now (value .entry)) [] 0)) × (now (dst .exit) ≡ put (now (dst .entry)) to (nodeBytes 1 (now (value .entry)) [] 0)) ⌝ }
+    ensures { λ r. ⌜ (r ≡ to + length (nodeBytes 1 (now (value .entry)) [] 0))
+        × (now (dst .exit) ≡ put (now (dst .entry)) to (nodeBytes 1 (now (value .entry)) [] 0)) ⌝ }
 {
     write_node_head(dst, to, 1, value.len() as u32, 0, 0);
     buffer::copy_to(dst, to + NODE_HEAD, value);
@@ -84,8 +85,10 @@ pub fn write_missing(
     command: CommandKey,
     expiry: u64,
 ) -> usize
-    requires { ⌜ KeyIn (now source) command × (length (now key) ≤ maxBytes) × (length (now source) ≤ maxBytes) × (to + length (nodeBytes kind (now key) (keyBytes (now source) command) expiry) ≤ length (now dst)) ⌝ }
-    ensures { λ r. ⌜ (r ≡ to + length (nodeBytes kind (now (key .entry)) (keyBytes (now (source .entry)) command) expiry)) × (now (dst .exit) ≡ put (now (dst .entry)) to (nodeBytes kind (now (key .entry)) (keyBytes (now (source .entry)) command) expiry)) ⌝ }
+    requires { ⌜ KeyIn (now source) command × (length (now key) ≤ maxBytes) × (length (now source) ≤ maxBytes)
+        × (to + length (nodeBytes kind (now key) (keyBytes (now source) command) expiry) ≤ length (now dst)) ⌝ }
+    ensures { λ r. ⌜ (r ≡ to + length (nodeBytes kind (now (key .entry)) (keyBytes (now (source .entry)) command) expiry))
+        × (now (dst .exit) ≡ put (now (dst .entry)) to (nodeBytes kind (now (key .entry)) (keyBytes (now (source .entry)) command) expiry)) ⌝ }
 {
     let n = command_key::key_len(source, command);
     write_node_head(dst, to, kind, key.len() as u32, n as u32, expiry);

@@ -30,8 +30,8 @@ unfoldable pub takesPart : CacheMode → Command → Bool
 takesPart All c = true
 takesPart OptIn c = enableCache c
 
--- rule P3: the first argument has to be a name, simple and not empty. (The Rust also stops where
--- the packed command has fewer than two bytes, which none has.)
+-- rule P3: the first argument has to be a name, simple and not empty. (The Rust also stops where the packed command has fewer than two bytes, which none
+-- has.)
 unfoldable pub reachBy : List Argument → Reach
 reachBy [] = stopped
 reachBy (simple [] ∷ l) = stopped

@@ -1,15 +1,14 @@
--- Worked cases of a push on a cache of one shard, each a theorem by itself, by computing. They lean on the definitions alone, so that a wrong one fails here first.
--- Assumes nothing.
+-- Worked cases of a push on a cache of one shard, each a theorem by itself, by computing. They lean on the definitions alone, so that a wrong one fails
+-- here first. Assumes nothing.
 use mathlib.Core.Path.{_≡_, refl}
 use mathlib.Core.Option.{none}
 use mathlib.Core.Bool.{cond}
 use mathlib.Core.List.{[], _∷_, _++_}
-use Prim.Native.Nat.{ℕ}
 use Prim.Native.String.{String}
 use lib.Dec.{eqb}
 use lib.ListN.{replicate}
 use Rattle.buffer.specs.Ascii.{ascii}
-use Rattle.buffer.specs.Same.{Bytes, same}
+use Rattle.buffer.specs.Same.{same}
 use Rattle.buffer.specs.Field.{le, readLe}
 use Rattle.buffer.specs.Part.{part, put}
 use Rattle.config.specs.Config.{checked, refused, settingsOf}
@@ -34,12 +33,11 @@ use Rattle.push.specs.Push.{pushedOn, imaged, pushCall}
 
 -- one name that opens all that these cases compute
 unfoldable case-defs : Unit {0}
-unfolding
-    pushedOn imaged onRows entered pushCall checked refused settingsOf setupOf book-defs call-defs ons invalidations same le readLe part put head itemHead encEntry encEntries
-    encItem encItems encShard encShards encode readEntry readEntries readItem readItems readShard readArena every distinctKeys distinctCommands mayStore itemFits itemFine
-    rowFine rowsFine isImage decode digits isValue valueEnd headAt bodyHead iter booleanEnd numberEnd verbatimEnd blobEnd lineEnd plain plainB crlfEnd lengthAt kindOf
-    numDef finDef endedDef crlfB lend pushed bytesAt lineAt integerAt flagAt valuesAt pairsAt attributeAt bodyOf iterOf valueOf decodeValue rotated sipRound rounds initial
-    compressed absorbed lastWord finished sipHash
+unfolding pushedOn imaged onRows entered pushCall checked refused settingsOf setupOf book-defs call-defs ons invalidations same le readLe part put head
+    itemHead encEntry encEntries encItem encItems encShard encShards encode readEntry readEntries readItem readItems readShard readArena every distinctKeys
+    distinctCommands mayStore itemFits itemFine rowFine rowsFine isImage decode digits isValue valueEnd headAt bodyHead iter booleanEnd numberEnd
+    verbatimEnd blobEnd lineEnd plain plainB crlfEnd lengthAt kindOf numDef finDef endedDef crlfB lend pushed bytesAt lineAt integerAt flagAt valuesAt
+    pairsAt attributeAt bodyOf iterOf valueOf decodeValue rotated sipRound rounds initial compressed absorbed lastWord finished sipHash
 case-defs = tt
 
 -- an arena of 64 bytes without items, and what its caller holds

@@ -52,7 +52,8 @@ fn dropped(counts: Statistics, entries: usize) -> Statistics
 // Drops the item of the key that the element is, if it is one.
 fn invalidate_key(arena: &mut [u8], g: Settings, element: &[u8], counts: Statistics) -> Statistics
     requires { ⌜ Arena g (now arena) ⌝ }
-    ensures { λ r. ⌜ ((v : Value) (bk : Book) → Means (now (element .entry)) v → Kept g (now (arena .entry)) counts bk → Kept g (now (arena .exit)) r (afterCall (setupNow g) (push (keysOf (more v none))) bk)) ⌝ }
+    ensures { λ r. ⌜ ((v : Value) (bk : Book) → Means (now (element .entry)) v → Kept g (now (arena .entry)) counts bk →
+        Kept g (now (arena .exit)) r (afterCall (setupNow g) (push (keysOf (more v none))) bk)) ⌝ }
 {
     if !is_blob(element) {
         return counts;
@@ -70,7 +71,8 @@ fn invalidate_keys(
     counts: Statistics,
 ) -> Statistics
     requires { ⌜ Arena g (now arena) × Standing (now array) first ⌝ }
-    ensures { λ r. ⌜ ((vs : Values) (bk : Book) → Stands (now (array .entry)) first vs → Kept g (now (arena .entry)) counts bk → Kept g (now (arena .exit)) r (afterCall (setupNow g) (push (keysOf vs)) bk)) ⌝ }
+    ensures { λ r. ⌜ ((vs : Values) (bk : Book) → Stands (now (array .entry)) first vs → Kept g (now (arena .entry)) counts bk →
+        Kept g (now (arena .exit)) r (afterCall (setupNow g) (push (keysOf vs)) bk)) ⌝ }
 {
     let mut c = first;
     let mut sum = counts;
@@ -84,7 +86,8 @@ fn invalidate_keys(
 // By the element behind `invalidate`: its keys where it is an array, everything where it is `_`.
 fn invalidate_by(arena: &mut [u8], g: Settings, value: &[u8], counts: Statistics) -> Statistics
     requires { ⌜ Arena g (now arena) × One (now value) ⌝ }
-    ensures { λ r. ⌜ ((v : Value) (bk : Book) → Means (now (value .entry)) v → Kept g (now (arena .entry)) counts bk → Kept g (now (arena .exit)) r (afterCall (setupNow g) (invalidating (arrayOf v) (isNull v)) bk)) ⌝ }
+    ensures { λ r. ⌜ ((v : Value) (bk : Book) → Means (now (value .entry)) v → Kept g (now (arena .entry)) counts bk →
+        Kept g (now (arena .exit)) r (afterCall (setupNow g) (invalidating (arrayOf v) (isNull v)) bk)) ⌝ }
 {
     match resp3_element::array(value) {
         Elements::Of(c) => invalidate_keys(arena, g, value, c, counts),
@@ -107,7 +110,8 @@ fn by_elements(
     counts: Statistics,
 ) -> Statistics
     requires { ⌜ Arena g (now arena) × Standing (now bytes) first ⌝ }
-    ensures { λ r. ⌜ ((vs : Values) (bk : Book) → Stands (now (bytes .entry)) first vs → Kept g (now (arena .entry)) counts bk → Kept g (now (arena .exit)) r (afterCall (setupNow g) (fromElements vs) bk)) ⌝ }
+    ensures { λ r. ⌜ ((vs : Values) (bk : Book) → Stands (now (bytes .entry)) first vs → Kept g (now (arena .entry)) counts bk →
+        Kept g (now (arena .exit)) r (afterCall (setupNow g) (fromElements vs) bk)) ⌝ }
 {
     if first.left == 0 {
         return counts;
@@ -125,7 +129,8 @@ fn by_elements(
 // A push that no cause refuses.
 fn push_in(arena: &mut [u8], g: Settings, bytes: &[u8], counts: Statistics) -> Statistics
     requires { ⌜ Arena g (now arena) × One (now bytes) ⌝ }
-    ensures { λ r. ⌜ ((v : Value) (bk : Book) → Means (now (bytes .entry)) v → Kept g (now (arena .entry)) counts bk → Kept g (now (arena .exit)) r (afterCall (setupNow g) (pushed v) bk)) ⌝ }
+    ensures { λ r. ⌜ ((v : Value) (bk : Book) → Means (now (bytes .entry)) v → Kept g (now (arena .entry)) counts bk →
+        Kept g (now (arena .exit)) r (afterCall (setupNow g) (pushed v) bk)) ⌝ }
 {
     match resp3_element::push(bytes) {
         Elements::Of(c) => by_elements(arena, g, bytes, c, counts),
@@ -142,7 +147,8 @@ pub fn handle_push(
     bytes: &[u8],
     counts: Statistics,
 ) -> Invalidated
-    ensures { λ r. ⌜ ((next : ℕ) → InvalidationLeft (pushCall size mode ttl (now (bytes .entry)) (holding (now (arena .entry)) (countsOf counts) next)) (now (arena .exit)) r) ⌝ }
+    ensures { λ r. ⌜ ((next : ℕ) →
+        InvalidationLeft (pushCall size mode ttl (now (bytes .entry)) (holding (now (arena .entry)) (countsOf counts) next)) (now (arena .exit)) r) ⌝ }
 {
     match sharded_lru::admit(arena, size, mode, ttl) {
         Admitted::Refused(n) => Invalidated {

@@ -1,10 +1,10 @@
-// Ranges that move within one lent slice: copied to another place, resized, replaced, exchanged, rotated.
+// Ranges that move within one lent slice: copied to another place, resized, exchanged, rotated.
 //
-// The definitions (`moved`, `resized`, `spliced`, `exchanged`, `rotated`) and their laws stand in specs/Move.antt of crate buffer.
+// The definitions (`moved`, `resized`, `exchanged`, `rotated`) and their laws stand in specs/Move.antt of crate buffer.
 ghost use mathlib.Core.Path.{_≡_};
 ghost use Prim.Native.Nat.{_+_, _-_, _≤_};
 ghost use lib.ListN.{length};
-ghost use Rattle.buffer.specs.Move.{moved, exchanged, resized, spliced, rotated};
+ghost use Rattle.buffer.specs.Move.{moved, exchanged, resized, rotated};
 
 // Copies the n bytes at `from` to `to`, which is no higher: the first byte first.
 fn move_down(s: &mut [u8], from: usize, to: usize, n: usize)
@@ -55,15 +55,6 @@ pub fn resize(s: &mut [u8], from: usize, to: usize, end: usize, n: usize)
     let rest = end - to;
     copy_within(s, to, next, rest);
     buffer::fill_zero(s, next + rest, end);
-}
-
-// Replaces the bytes from `from` up to `to` by bs: what follows up to `end` moves, and what is freed is zeroed.
-pub fn splice(s: &mut [u8], from: usize, to: usize, end: usize, bs: &[u8])
-    requires { ⌜ (from ≤ to) × (to ≤ end) × (end ≤ length (now s)) × (from + length (now bs) + (end - to) ≤ length (now s)) ⌝ }
-    ensures { λ _. ⌜ now (s .exit) ≡ spliced (now (s .entry)) from to end (now (bs .entry)) ⌝ }
-{
-    resize(s, from, to, end, bs.len());
-    buffer::copy_to(s, from, bs);
 }
 
 // Exchanges the n bytes at a with the n bytes at b, all of which are higher.

@@ -1,7 +1,6 @@
 -- Rule S10 for values: what resolving hands out and stores has the properties of what it was given, since it makes nothing up. (That it is a part of the
--- slices lent is the code's matter.)
--- P is any property of the replies and Q of the missing keys, and R any of what is handed out; `Closed` says what they have to be for this. Assumes nothing else.
--- (Where a definition changes, a worked case is to say so first: this file cites one.)
+-- slices lent is the code's matter.) P is any property of the replies and Q of the missing keys, and R any of what is handed out; `Closed` says what they
+-- have to be for this. Assumes nothing else. (Where a definition changes, a worked case is to say so first: this file cites one.)
 use mathlib.Core.Path.{_≡_, refl}
 use mathlib.Core.List.{List, [], _∷_, _++_}
 use mathlib.Core.Option.{Option, some}

@@ -101,7 +101,8 @@ pub fn dry_pass(
 // Copies what a step hands out to `at`, and answers the place behind it.
 fn copy_element<'a>(plan: &'a [u8], list: &'a [u8], next: Next, out: &mut [u8], at: usize) -> usize
     requires { ⌜ NextIn (now plan) (now list) next × (at + length (elementBytes (now plan) (now list) next) ≤ length (now out)) ⌝ }
-    ensures { λ r. ⌜ (r ≡ at + length (elementBytes (now (plan .entry)) (now (list .entry)) next)) × (now (out .exit) ≡ put (now (out .entry)) at (elementBytes (now (plan .entry)) (now (list .entry)) next)) ⌝ }
+    ensures { λ r. ⌜ (r ≡ at + length (elementBytes (now (plan .entry)) (now (list .entry)) next))
+        × (now (out .exit) ≡ put (now (out .entry)) at (elementBytes (now (plan .entry)) (now (list .entry)) next)) ⌝ }
 {
     let part = resolving_step::element_part(plan, list, next);
     buffer::copy_to(out, at, part);
@@ -111,7 +112,8 @@ fn copy_element<'a>(plan: &'a [u8], list: &'a [u8], next: Next, out: &mut [u8], 
 // Writes what a step adds to the answer at `at`, and answers the place behind it.
 fn write_next<'a>(plan: &'a [u8], list: &'a [u8], next: Next, out: &mut [u8], at: usize) -> usize
     requires { ⌜ NextIn (now plan) (now list) next × (at + length (nextBytes (now plan) (now list) next) ≤ length (now out)) ⌝ }
-    ensures { λ r. ⌜ (r ≡ at + length (nextBytes (now (plan .entry)) (now (list .entry)) next)) × (now (out .exit) ≡ put (now (out .entry)) at (nextBytes (now (plan .entry)) (now (list .entry)) next)) ⌝ }
+    ensures { λ r. ⌜ (r ≡ at + length (nextBytes (now (plan .entry)) (now (list .entry)) next))
+        × (now (out .exit) ≡ put (now (out .entry)) at (nextBytes (now (plan .entry)) (now (list .entry)) next)) ⌝ }
 {
     match next {
         Next::Plan(_, _) => copy_element(plan, list, next, out, at),

@@ -12,7 +12,8 @@ ghost use lib.ListN.{length};
 ghost use Rattle.resp3_element.specs.Meaning.{Inside};
 ghost use Rattle.plan.specs.Head.{HeadIn};
 ghost use Rattle.resolving.specs.Store.{expiryOf};
-ghost use Rattle.resolving_step.specs.Steps.{Fetches, Placed, HandsOn, Readies, TakesSingle, TakesSeveral, Waits, Ends, OnNode, StepIs, OnMissing, elementBytes, holderOf, elementStart, NextIn};
+ghost use Rattle.resolving_step.specs.Steps.{Fetches, Placed, HandsOn, Readies, TakesSingle, TakesSeveral, Waits, Ends, OnNode, StepIs, OnMissing};
+ghost use Rattle.resolving_step.specs.Steps.{elementBytes, holderOf, elementStart, NextIn};
 
 // Where the walk stands: at a node, at a reply, and at an element of the array that stands in the list from `from` up to `to`.
 pub struct Walk {
@@ -356,7 +357,8 @@ pub fn step_at(plan: &[u8], list: &[u8], c: Walk, mode: CacheMode, clock: u64) -
 pub fn element_part<'a>(plan: &'a [u8], list: &'a [u8], next: Next) -> &'a [u8]
     requires { ⌜ NextIn (now plan) (now list) next ⌝ }
     ensures bytes { λ r. ⌜ now r ≡ elementBytes (now (plan .entry)) (now (list .entry)) next ⌝ }
-    ensures place { λ r. ⌜ (r .ptr .0 ≡ holderOf next (plan .entry .ptr .0) (list .entry .ptr .0)) × (r .ptr .1 ≡ elementStart next + holderOf next (plan .entry .ptr .1) (list .entry .ptr .1)) ⌝ }
+    ensures place { λ r. ⌜ (r .ptr .0 ≡ holderOf next (plan .entry .ptr .0) (list .entry .ptr .0))
+        × (r .ptr .1 ≡ elementStart next + holderOf next (plan .entry .ptr .1) (list .entry .ptr .1)) ⌝ }
 {
     match next {
         Next::Plan(a, e) => &plan[a..e],

@@ -11,7 +11,8 @@ use Rattle.resp3.specs.Ends.{lengthAt, crlfEnd, plain, lineEnd, blobEnd,
 
 -- opens the reading and the writing of values
 unfoldable read : Unit {0}
-unfolding encode digits isValue valueEnd headAt bodyHead iter booleanEnd numberEnd verbatimEnd blobEnd lineEnd plain plainB crlfEnd lengthAt kindOf numDef finDef endedDef crlfB
+unfolding encode digits isValue valueEnd headAt bodyHead iter booleanEnd numberEnd verbatimEnd blobEnd lineEnd plain plainB crlfEnd lengthAt kindOf numDef
+    finDef endedDef crlfB
 read = tt
 
 -- `_` inside n arrays of one element each

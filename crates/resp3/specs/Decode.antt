@@ -92,7 +92,7 @@ unfoldable pub iterOf : (ℕ → End) → (ℕ → Value) → ℕ → ℕ → Va
 iterOf f g zero q = none
 iterOf f g (suc n) q = more (g q) (iterOf f g n (endOr (f q)))
 
--- the value at at, where there is one that nests at most d deep
+-- the value at `at`, where there is one that nests at most d deep
 unfoldable pub valueOf : ℕ → Bytes → ℕ → Value
 valueOf zero s at = null
 valueOf (suc d) s at = bodyOf (kindOf (getD s at 0)) s (λ n e. iterOf (λ q. valueEnd d s q) (λ q. valueOf d s q) n e) (at + 1)

@@ -29,7 +29,7 @@ abbrev pub numThen : Num → (ℕ → ℕ → End) → End
 numThen (Val n e) f = f n e
 numThen BadNum f = Bad
 
--- a length or a count at at: no more than the list has bytes
+-- a length or a count at `at`: no more than the list has bytes
 unfoldable pub lengthAt : Bytes → ℕ → Num
 lengthAt s at = numDef (length s) s at
 
@@ -90,7 +90,7 @@ bodyHead Pairs s p = countOf (lengthAt s p) (λ n. n + n)
 bodyHead PairsAndValue s p = countOf (lengthAt s p) (λ n. n + n + 1)
 bodyHead Nothing s p = BadHead
 
--- what stands at at, up to the first value inside it
+-- what stands at `at`, up to the first value inside it
 unfoldable pub headAt : Bytes → ℕ → Head
 headAt s at = bodyHead (shapeOf (kindOf (getD s at 0))) s (at + 1)
 
@@ -104,7 +104,7 @@ unfoldable pub iter : (ℕ → End) → ℕ → ℕ → End
 iter f zero q = At q
 iter f (suc n) q = endThen (f q) (λ e. iter f n e)
 
--- the value at at, nesting at most d deep
+-- the value at `at`, nesting at most d deep
 unfoldable pub valueEnd : ℕ → Bytes → ℕ → End
 valueEnd zero s at = Bad
 valueEnd (suc d) s at = headThen (headAt s at) (λ n e. iter (λ q. valueEnd d s q) n e)

@@ -23,7 +23,7 @@ use Rattle.resp3.specs.Paths as paths
 use Rattle.resp3.specs.Rows.{headOf, flat, flat-enc, valid-flat, deep-flat, pairUp, skip, paired, row-none, row-one}
 use Rattle.resp3.specs.Says.{not-bad, at-same, crlf-says, num-then, length-says, blob-says, line-says, verbatim-says, number-says, flag-says}
 
--- a value of nesting at most d was written at at, up to e
+-- a value of nesting at most d was written at `at`, up to e
 pub record Written (d : ℕ) (s : Bytes) (at e : ℕ) : Type 0 where
   pub v : Value
   pub ok : Valid v

@@ -224,7 +224,7 @@ fn alone(x: End) -> Head
     }
 }
 
-// What stands at at, up to the first value inside it.
+// What stands at `at`, up to the first value inside it.
 fn head_at(s: &[u8], at: usize) -> Head
     ensures { λ r. ⌜ r ≡ headAt (now (s .entry)) at ⌝ }
 {
@@ -262,7 +262,7 @@ fn head_at(s: &[u8], at: usize) -> Head
     }
 }
 
-// Where the value at at ends, if one stands there that nests at most depth deep.
+// Where the value at `at` ends, if one stands there that nests at most depth deep.
 pub fn value_end(s: &[u8], at: usize, depth: usize) -> End
     ensures { λ r. ⌜ r ≡ valueEnd depth (now (s .entry)) at ⌝ }
 {

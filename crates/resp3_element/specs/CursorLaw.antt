@@ -24,7 +24,7 @@ use Rattle.resp3_element.specs.Meaning.{valueKind, arrayOf, pushOf, Stan
 use Rattle.resp3_element.specs.Places.{standAt, listAt}
 use Rattle.resp3_element.specs.Law.{bytes-are, head-law}
 
--- before values that stand at at and end with the slice
+-- before values that stand at `at` and end with the slice
 pub stand-law : (s : Bytes) (at n : ℕ) (vs : Values) → n ≡ count vs → at ≤ length s → drop at s ≡ encs vs [] → Valids vs → deepest vs ≤ maxDepth
     → Stands s (standAt s at n) vs
 unfolding standAt

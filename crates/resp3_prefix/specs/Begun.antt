@@ -158,7 +158,7 @@ bodyBegun d Attribute s p = rowOf d 2 1 (countBegun maxBytes s p)
 bodyBegun d Push s p = rowOf d 1 0 (countBegun maxBytes s p)
 bodyBegun d Unknown s p = NoHead
 
--- what stands at at, up to the first value inside it
+-- what stands at `at`, up to the first value inside it
 unfoldable pub headBegun : ℕ → Bytes → ℕ → Opened
 headBegun d s at = cond (leb (length s) at) (LacksHead 3) (bodyBegun d (kindOf (getD s at 0)) s (at + 1))
 
@@ -179,7 +179,7 @@ unfoldable pub iter : (ℕ → Begun) → ℕ → ℕ → Begun
 iter f zero q = Ends q
 iter f (suc n) q = begunThen (f q) n (λ e. iter f n e)
 
--- the value at at, nesting at most d deep
+-- the value at `at`, nesting at most d deep
 unfoldable pub valueBegun : ℕ → Bytes → ℕ → Begun
 valueBegun zero s at = Never
 valueBegun (suc d) s at = headThen (headBegun d s at) (λ n e. iter (λ q. valueBegun d s q) n e)

@@ -364,7 +364,7 @@ fn row_begun(s: &[u8], at: usize, depth: usize, per: u64, more: u64) -> Opened
     }
 }
 
-// What stands at at, up to the first value inside it, which nests at most depth deep.
+// What stands at `at`, up to the first value inside it, which nests at most depth deep.
 fn head_begun(s: &[u8], at: usize, depth: usize) -> Opened
     requires { ⌜ length (now s) ≤ maxBytes ⌝ }
     ensures { λ r. ⌜ r ≡ headBegun depth (now (s .entry)) at ⌝ }
@@ -394,7 +394,7 @@ fn head_begun(s: &[u8], at: usize, depth: usize) -> Opened
     }
 }
 
-// The value at at, nesting at most depth deep.
+// The value at `at`, nesting at most depth deep.
 fn value_begun(s: &[u8], at: usize, depth: usize) -> Begun
     requires { ⌜ length (now s) ≤ maxBytes ⌝ }
     ensures { λ r. ⌜ r ≡ valueBegun depth (now (s .entry)) at ⌝ }

@@ -1,5 +1,6 @@
-// Vectors of RESP3, damaged ones among them: writes each line of the input and behind it what the bytes that it spells are found to be. In a line \r is CR, \n is
-// LF, and a backslash and another byte are that byte; a line that begins with `/` is a heading. Where the vectors come from is said in judges/README.md.
+// Vectors of RESP3, damaged ones among them: writes each line of the input and behind it what the bytes that it spells are found to be. In a line \r is CR,
+// \n is LF, and a backslash and another byte are that byte; a line that begins with `/` is a heading. Where the vectors come from is said in
+// judges/README.md.
 use libc::STDIN_FILENO;
 use libc::STDOUT_FILENO;
 use resp3::Kind;
@@ -196,25 +197,10 @@ fn is_heading(line: &[u8]) -> bool {
     line[0] == b'/'
 }
 
-// Where the line that starts at `at` ends.
-fn line_end(s: &[u8], at: usize) -> usize
-    requires { ⌜ at ≤ length (now s) ⌝ }
-    ensures { λ r. ⌜ (at ≤ r) × (r ≤ length (now (s .entry))) ⌝ }
-{
-    let mut i = at;
-    while i < s.len() {
-        if s[i] == b'\n' {
-            return i;
-        }
-        i += 1;
-    }
-    i
-}
-
 fn show_lines(s: &[u8]) {
     let mut at = 0;
     while at < s.len() {
-        let end = line_end(s, at);
+        let end = vectors_lines::line_end(s, at);
         show_line(&s[at..end]);
         if end == s.len() {
             return;

@@ -24,10 +24,10 @@ use Rattle.served.specs.Served.{servedAnswers, servedFrom, bufferFrom, s
 
 -- one name that opens the whole call
 unfoldable case-defs : Unit {0}
-unfolding
-    same le readLe part put digits crlfB endedDef finDef numDef kindOf plainB encode lengthAt crlfEnd plain lineEnd blobEnd verbatimEnd numberEnd booleanEnd
-    iter bodyHead headAt valueEnd isValue resp.bytesAt resp.lineAt resp.integerAt resp.valuesAt resp.bodyOf resp.iterOf resp.valueOf resp.decode every plan-defs order-defs decode-defs
-    valueAt placeAt valuesAt placesAt commandsOf planRead resultBytes servedAnswers servedFrom bufferFrom servedOf bufferOf
+unfolding same le readLe part put digits crlfB endedDef finDef numDef kindOf plainB encode lengthAt crlfEnd plain lineEnd blobEnd verbatimEnd numberEnd
+    booleanEnd iter bodyHead headAt valueEnd isValue resp.bytesAt resp.lineAt resp.integerAt resp.valuesAt resp.bodyOf resp.iterOf resp.valueOf resp.decode
+    every plan-defs order-defs decode-defs valueAt placeAt valuesAt placesAt commandsOf planRead resultBytes servedAnswers servedFrom bufferFrom servedOf
+    bufferOf
 case-defs = tt
 
 -- a plan's head, and a node of a kind with a number and a part

@@ -21,7 +21,7 @@ use Rattle.resp3.specs.Ends.{isValue}
 use Rattle.resp3.specs.Decode as resp
 use Rattle.resp3.specs.Law.{value-law, decode-law}
 use Rattle.book.specs.Book.{Setup, Row, afterAll, answers}
-use Rattle.book.specs.Calls.{resolving, refusals, ons, stores, call-defs}
+use Rattle.book.specs.Calls.{refusals, ons, stores, call-defs}
 use Rattle.arena.specs.Decode.{decode}
 use Rattle.arena.specs.Image.{decode-exact}
 use Rattle.arena.specs.Sequence.{Held, lend, bookOf}

@@ -35,7 +35,8 @@ fn write_served<'a>(
     n: u64,
     answer: &mut [u8],
 ) -> usize
-    requires { ⌜ Begins (now plan) (now none) start × (length (resultHead transaction n) ≤ length (now answer)) × Fine (now plan) (now none) start All 0 (length (resultHead transaction n)) (length (now answer)) ⌝ }
+    requires { ⌜ Begins (now plan) (now none) start × (length (resultHead transaction n) ≤ length (now answer))
+        × Fine (now plan) (now none) start All 0 (length (resultHead transaction n)) (length (now answer)) ⌝ }
     ensures { λ r. ⌜ WrittenFrom (now (plan .entry)) (now (none .entry)) start transaction n (now (answer .entry)) (now (answer .exit)) r ⌝ }
 {
     let at = caching_cmd::write_result_head(answer, transaction, n);

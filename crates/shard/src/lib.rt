@@ -100,7 +100,8 @@ pub fn find(s: &[u8], key: &[u8]) -> Position
 // Brings the item at `at` to the front: it is the newest then.
 pub fn touch(s: &mut [u8], at: usize)
     requires { ⌜ ItemAt (now s) at ⌝ }
-    ensures { λ _. ⌜ ((front back : Row) (it : Item) → Stands (now (s .entry)) at front back it → now (s .exit) ≡ encShard (length (now (s .entry))) (it ∷ (front ++ back))) ⌝ }
+    ensures { λ _. ⌜ ((front back : Row) (it : Item) → Stands (now (s .entry)) at front back it →
+        now (s .exit) ≡ encShard (length (now (s .entry))) (it ∷ (front ++ back))) ⌝ }
 {
     let end = at + item_len(s, at);
     ranges::rotate(s, 16, at, end);
@@ -109,7 +110,8 @@ pub fn touch(s: &mut [u8], at: usize)
 // Takes the item at `at` out.
 pub fn remove(s: &mut [u8], at: usize)
     requires { ⌜ ItemAt (now s) at ⌝ }
-    ensures { λ _. ⌜ ((front back : Row) (it : Item) → Stands (now (s .entry)) at front back it → now (s .exit) ≡ encShard (length (now (s .entry))) (front ++ back)) ⌝ }
+    ensures { λ _. ⌜ ((front back : Row) (it : Item) → Stands (now (s .entry)) at front back it →
+        now (s .exit) ≡ encShard (length (now (s .entry))) (front ++ back)) ⌝ }
 {
     let size = item_len(s, at);
     let count = buffer::read_u32(s, 0);
@@ -122,7 +124,8 @@ pub fn remove(s: &mut [u8], at: usize)
 // Drops the key's item, and answers how many entries it had.
 pub fn invalidate_in(s: &mut [u8], key: &[u8]) -> usize
     requires { ⌜ Shard (now s) ⌝ }
-    ensures { λ r. ⌜ ((row : Row) → Holds (now (s .entry)) row → (now (s .exit) ≡ encShard (length (now (s .entry))) (without (now (key .entry)) row)) × (r ≡ entriesOf (find (now (key .entry)) row))) ⌝ }
+    ensures { λ r. ⌜ ((row : Row) → Holds (now (s .entry)) row →
+        (now (s .exit) ≡ encShard (length (now (s .entry))) (without (now (key .entry)) row)) × (r ≡ entriesOf (find (now (key .entry)) row))) ⌝ }
 {
     match find(s, key) {
         Position::At(at) => {

@@ -1,4 +1,5 @@
--- What the writers are lent: bytes with room, a shard with the room that a new item takes, an item with entries at a place. Assumes nothing: these are definitions.
+-- What the writers are lent: bytes with room, a shard with the room that a new item takes, an item with entries at a place. Assumes nothing: these are
+-- definitions.
 use mathlib.Core.Path.{_≡_}
 use Prim.Native.Nat.{ℕ, _+_, _-_, _≤_}
 use mathlib.Core.List.{List, _∷_, _++_}

@@ -92,7 +92,8 @@ fn splice_item(
     epoch: u64,
 )
     requires { ⌜ Spliceable (length (now s)) from to end (itemRoom (now key) (now command) (now value)) ⌝ }
-    ensures { λ _. ⌜ now (s .exit) ≡ spliced (now (s .entry)) from to end (encItem (newItem (now (key .entry)) (now (command .entry)) (now (value .entry)) expiry epoch)) ⌝ }
+    ensures { λ _. ⌜ now (s .exit)
+        ≡ spliced (now (s .entry)) from to end (encItem (newItem (now (key .entry)) (now (command .entry)) (now (value .entry)) expiry epoch)) ⌝ }
 {
     ranges::resize(
         s,
@@ -117,7 +118,9 @@ pub fn push_front(
     epoch: u64,
 )
     requires { ⌜ Spliceable (length (now s)) 16 16 end (itemRoom (now key) (now command) (now value)) ⌝ }
-    ensures { λ _. ⌜ ((row : Row) → Pushable (now (s .entry)) end count used row (newItem (now (key .entry)) (now (command .entry)) (now (value .entry)) expiry epoch) → now (s .exit) ≡ encShard (length (now (s .entry))) (newItem (now (key .entry)) (now (command .entry)) (now (value .entry)) expiry epoch ∷ row)) ⌝ }
+    ensures { λ _. ⌜ ((row : Row) →
+        Pushable (now (s .entry)) end count used row (newItem (now (key .entry)) (now (command .entry)) (now (value .entry)) expiry epoch) →
+        now (s .exit) ≡ encShard (length (now (s .entry))) (newItem (now (key .entry)) (now (command .entry)) (now (value .entry)) expiry epoch ∷ row)) ⌝ }
 {
     splice_item(s, 16, 16, end, key, command, value, expiry, epoch);
     buffer::write_u32(s, 0, count);
@@ -137,7 +140,11 @@ pub fn set_entry(
     value: &[u8],
 )
     requires { ⌜ Spliceable (length (now s)) from to end (entryRoom (now command) (now value)) × (at + 32 ≤ from) ⌝ }
-    ensures { λ _. ⌜ ((front back : Row) (k : Bytes) (e x : ℕ) (ef em eb : List Entry) → EntriesAt (now (s .entry)) at from to end front back k e x ef em eb → Counts fields front back k e (ef ++ (newEntry (now (command .entry)) (now (value .entry)) ∷ eb)) → now (s .exit) ≡ encShard (length (now (s .entry))) (front ++ (itemOf k e (fields .expiry) (ef ++ (newEntry (now (command .entry)) (now (value .entry)) ∷ eb)) ∷ back))) ⌝ }
+    ensures { λ _. ⌜ ((front back : Row) (k : Bytes) (e x : ℕ) (ef em eb : List Entry) →
+        EntriesAt (now (s .entry)) at from to end front back k e x ef em eb →
+        Counts fields front back k e (ef ++ (newEntry (now (command .entry)) (now (value .entry)) ∷ eb)) →
+        now (s .exit) ≡ encShard (length (now (s .entry)))
+        (front ++ (itemOf k e (fields .expiry) (ef ++ (newEntry (now (command .entry)) (now (value .entry)) ∷ eb)) ∷ back))) ⌝ }
 {
     splice_entry(s, from, to, end, command, value);
     buffer::write_u32(s, at + 4, fields.count);

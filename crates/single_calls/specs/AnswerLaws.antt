@@ -1,5 +1,5 @@
 -- Which answer a call's return asks for, one law for each case; and that a call which causes 1 and 9 do not admit has a cause's number. Assumes nothing.
-use mathlib.Core.Path.{_≡_, refl, sym, ap}
+use mathlib.Core.Path.{_≡_, sym, ap}
 use Prim.Native.Nat.{ℕ, _+_}
 use native.Mathlib.Omega.{arith}
 use mathlib.Core.Bool.{Bool, true, false, cond}
@@ -21,7 +21,7 @@ use Rattle.single_calls.specs.declared.Answered.the-variants.{Done, Refu
 use Rattle.single_calls.specs.declared.Found.the-variants.{Hit, Miss, Denied}
 use Rattle.call_entry.specs.Entered.{noCause}
 use Rattle.single_calls.specs.Single.{Return}
-use Rattle.single_calls.specs.Answers.{answeredOf, servedAs, foundOf}
+use Rattle.single_calls.specs.Answers.{answeredOf, foundOf}
 
 module _ (d : Return) where
   -- no cause

@@ -1,5 +1,5 @@
--- The place of what a single lookup serves, by the book: in the rows after the call where the book's answer is a hit, else the arena's start. And that it depends on
--- the arena alone of what the caller holds. Assumes that cause 1 lets the settings through.
+-- The place of what a single lookup serves, by the book: in the rows after the call where the book's answer is a hit, else the arena's start. And that it
+-- depends on the arena alone of what the caller holds. Assumes that cause 1 lets the settings through.
 use mathlib.Core.Path.{_≡_, refl, ap, ap₂, _∙_}
 use Prim.Native.Nat.{ℕ}
 use mathlib.Core.Option.{Option, none, some}

@@ -1,5 +1,5 @@
--- Single calls at work on a cache of one key, computed: cases of the joint table, the order of the causes, and what is left. They lean on the definitions alone, with
--- SipHash and RESP3 as they are. Assumes nothing.
+-- Single calls at work on a cache of one key, computed: cases of the joint table, the order of the causes, and what is left. They lean on the definitions
+-- alone, with SipHash and RESP3 as they are. Assumes nothing.
 use mathlib.Core.Path.{_≡_, refl}
 use Prim.Native.Nat.{ℕ}
 use mathlib.Core.Option.{none, some}

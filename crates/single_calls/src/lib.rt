@@ -10,7 +10,6 @@ use sharded_lru::Admitted;
 use statistics::Statistics;
 ghost use mathlib.Core.Path.{_≡_};
 ghost use Prim.Native.Nat.{ℕ};
-ghost use mathlib.Core.Option.{some};
 ghost use lib.ListN.{length};
 ghost use Rattle.config.specs.Config.{checked};
 ghost use Rattle.book.specs.Book.{Row, Counts, lookup, store, invalidate};
@@ -124,7 +123,12 @@ fn lookup_admitted(
     counts: Statistics,
 ) -> LookedUp
     requires { ⌜ Arena g (now arena) ⌝ }
-    ensures { λ r. ⌜ ((rows : ℕ → Row) (next : ℕ) → Lent g (now (arena .entry)) rows → LookupLeft (imaged (setupNow g) rows (lookup (now (key .entry)) (now (command .entry)) (when .clock) (when .epoch)) (holding (now (arena .entry)) (countsOf counts) next)) (placeLeft (setupNow g) (now (key .entry)) (now (command .entry)) (imaged (setupNow g) rows (lookup (now (key .entry)) (now (command .entry)) (when .clock) (when .epoch)) (holding (now (arena .entry)) (countsOf counts) next))) (now (arena .exit)) r) ⌝ }
+    ensures { λ r. ⌜ ((rows : ℕ → Row) (next : ℕ) → Lent g (now (arena .entry)) rows →
+        LookupLeft (imaged (setupNow g) rows (lookup (now (key .entry)) (now (command .entry)) (when .clock) (when .epoch))
+        (holding (now (arena .entry)) (countsOf counts) next))
+        (placeLeft (setupNow g) (now (key .entry)) (now (command .entry)) (imaged (setupNow g) rows
+        (lookup (now (key .entry)) (now (command .entry)) (when .clock) (when .epoch)) (holding (now (arena .entry)) (countsOf counts) next)))
+        (now (arena .exit)) r) ⌝ }
 {
     let n = command.len();
     if too_long(key.len(), n, 0) {
@@ -149,7 +153,11 @@ pub fn lookup(
     command: &[u8],
     counts: Statistics,
 ) -> LookedUp
-    ensures { λ r. ⌜ ((next : ℕ) → LookupLeft (singleCall size mode ttl (lookup (now (key .entry)) (now (command .entry)) (when .clock) (when .epoch)) (holding (now (arena .entry)) (countsOf counts) next)) (lookupPlace size mode ttl (now (key .entry)) (now (command .entry)) (when .clock) (when .epoch) (holding (now (arena .entry)) (countsOf counts) next)) (now (arena .exit)) r) ⌝ }
+    ensures { λ r. ⌜ ((next : ℕ) →
+        LookupLeft (singleCall size mode ttl (lookup (now (key .entry)) (now (command .entry)) (when .clock) (when .epoch))
+        (holding (now (arena .entry)) (countsOf counts) next))
+        (lookupPlace size mode ttl (now (key .entry)) (now (command .entry)) (when .clock) (when .epoch) (holding (now (arena .entry)) (countsOf counts) next))
+        (now (arena .exit)) r) ⌝ }
 {
     match sharded_lru::admit(arena, size, mode, ttl) {
         Admitted::Refused(n) => LookedUp {
@@ -171,7 +179,9 @@ fn store_admitted(
     expiry: u64,
 ) -> Answered
     requires { ⌜ Arena g (now arena) ⌝ }
-    ensures { λ r. ⌜ ((rows : ℕ → Row) (lent : Counts) (next : ℕ) → Lent g (now (arena .entry)) rows → Left (imaged (setupNow g) rows (store (now (key .entry)) (now (command .entry)) (now (value .entry)) expiry epoch) (holding (now (arena .entry)) lent next)) (now (arena .exit)) r) ⌝ }
+    ensures { λ r. ⌜ ((rows : ℕ → Row) (lent : Counts) (next : ℕ) → Lent g (now (arena .entry)) rows →
+        Left (imaged (setupNow g) rows (store (now (key .entry)) (now (command .entry)) (now (value .entry)) expiry epoch)
+        (holding (now (arena .entry)) lent next)) (now (arena .exit)) r) ⌝ }
 {
     if too_long(key.len(), command.len(), value.len()) {
         return Answered::Refused(config::TOO_LONG);
@@ -197,7 +207,9 @@ pub fn store(
     value: &[u8],
     expiry: u64,
 ) -> Answered
-    ensures { λ r. ⌜ ((lent : Counts) (next : ℕ) → Left (singleCall size mode ttl (store (now (key .entry)) (now (command .entry)) (now (value .entry)) expiry epoch) (holding (now (arena .entry)) lent next)) (now (arena .exit)) r) ⌝ }
+    ensures { λ r. ⌜ ((lent : Counts) (next : ℕ) →
+        Left (singleCall size mode ttl (store (now (key .entry)) (now (command .entry)) (now (value .entry)) expiry epoch)
+        (holding (now (arena .entry)) lent next)) (now (arena .exit)) r) ⌝ }
 {
     match sharded_lru::admit(arena, size, mode, ttl) {
         Admitted::Refused(n) => Answered::Refused(n),
@@ -208,7 +220,9 @@ pub fn store(
 // An invalidation that causes 1 and 9 admitted.
 fn invalidate_admitted(arena: &mut [u8], g: Settings, key: &[u8], counts: Statistics) -> Invalidated
     requires { ⌜ Arena g (now arena) ⌝ }
-    ensures { λ r. ⌜ ((rows : ℕ → Row) (next : ℕ) → Lent g (now (arena .entry)) rows → InvalidationLeft (imaged (setupNow g) rows (invalidate (now (key .entry))) (holding (now (arena .entry)) (countsOf counts) next)) (now (arena .exit)) r) ⌝ }
+    ensures { λ r. ⌜ ((rows : ℕ → Row) (next : ℕ) → Lent g (now (arena .entry)) rows →
+        InvalidationLeft (imaged (setupNow g) rows (invalidate (now (key .entry))) (holding (now (arena .entry)) (countsOf counts) next))
+        (now (arena .exit)) r) ⌝ }
 {
     if too_long(key.len(), 0, 0) {
         return Invalidated {
@@ -232,7 +246,9 @@ pub fn invalidate(
     key: &[u8],
     counts: Statistics,
 ) -> Invalidated
-    ensures { λ r. ⌜ ((next : ℕ) → InvalidationLeft (singleCall size mode ttl (invalidate (now (key .entry))) (holding (now (arena .entry)) (countsOf counts) next)) (now (arena .exit)) r) ⌝ }
+    ensures { λ r. ⌜ ((next : ℕ) →
+        InvalidationLeft (singleCall size mode ttl (invalidate (now (key .entry))) (holding (now (arena .entry)) (countsOf counts) next))
+        (now (arena .exit)) r) ⌝ }
 {
     match sharded_lru::admit(arena, size, mode, ttl) {
         Admitted::Refused(n) => Invalidated {

@@ -53,7 +53,8 @@ pub enum Sent {
 // How long that is which is sent for a command.
 fn command_len(bytes: &[u8], head: Head, arena: &[u8], g: Settings, when: Now) -> usize
     requires { ⌜ One g (when .clock) (now bytes) head × (length (now bytes) ≤ maxBytes) × Arena g (now arena) ⌝ }
-    ensures { λ r. ⌜ ((rows : ℕ → Row) → Lent g (now (arena .entry)) rows → r ≡ length (sentFor (setupNow g) rows (when .clock) (when .epoch) (ask g (when .clock)) (g .mode) (commandOf (now (bytes .entry)) head))) ⌝ }
+    ensures { λ r. ⌜ ((rows : ℕ → Row) → Lent g (now (arena .entry)) rows →
+        r ≡ length (sentFor (setupNow g) rows (when .clock) (when .epoch) (ask g (when .clock)) (g .mode) (commandOf (now (bytes .entry)) head))) ⌝ }
 {
     let size = planning_dry_pass::size_of(bytes, head, arena, g, when);
     size.send
@@ -118,8 +119,11 @@ fn write_command(
     g: Settings,
     when: Now,
 ) -> usize
-    requires { ⌜ One g (when .clock) (now bytes) head × (length (now bytes) ≤ maxBytes) × Arena g (now arena) × Fits g (now arena) (λ rows. sentFor (setupNow g) rows (when .clock) (when .epoch) (ask g (when .clock)) (g .mode) (commandOf (now bytes) head)) to (length (now out)) × Blank g (now arena) ⌝ }
-    ensures { λ r. ⌜ Puts g (now (arena .entry)) (λ rows. sentFor (setupNow g) rows (when .clock) (when .epoch) (ask g (when .clock)) (g .mode) (commandOf (now (bytes .entry)) head)) (now (out .entry)) to (now (out .exit)) r ⌝ }
+    requires { ⌜ One g (when .clock) (now bytes) head × (length (now bytes) ≤ maxBytes) × Arena g (now arena)
+        × Fits g (now arena) (λ rows. sentFor (setupNow g) rows (when .clock) (when .epoch) (ask g (when .clock)) (g .mode) (commandOf (now bytes) head)) to (length (now out))
+        × Blank g (now arena) ⌝ }
+    ensures { λ r. ⌜ Puts g (now (arena .entry)) (λ rows. sentFor (setupNow g) rows (when .clock) (when .epoch) (ask g (when .clock)) (g .mode) (commandOf (now (bytes .entry)) head))
+        (now (out .entry)) to (now (out .exit)) r ⌝ }
 {
     let mode = g.mode;
     let w = all_wait(bytes, head, g, when.clock);
@@ -131,7 +135,8 @@ fn write_command(
 // The room that is left in a buffer once what is sent for the commands is taken.
 fn send_room(bytes: &[u8], k: Commands, arena: &[u8], g: Settings, when: Now, room: Room) -> Room
     requires { ⌜ Planable g (when .clock) (now bytes) (k .left) (k .at) × (length (now bytes) ≤ maxBytes) × Arena g (now arena) ⌝ }
-    ensures { λ r. ⌜ ((rows : ℕ → Row) → Lent g (now (arena .entry)) rows → r ≡ spent room (length (allSent (setupNow g) rows (when .clock) (when .epoch) (ask g (when .clock)) (g .mode) (commandsOf (now (bytes .entry)) k)))) ⌝ }
+    ensures { λ r. ⌜ ((rows : ℕ → Row) → Lent g (now (arena .entry)) rows →
+        r ≡ spent room (length (allSent (setupNow g) rows (when .clock) (when .epoch) (ask g (when .clock)) (g .mode) (commandsOf (now (bytes .entry)) k)))) ⌝ }
 {
     let mut at = k.at;
     let mut left = k.left;
@@ -155,8 +160,11 @@ fn write_commands(
     g: Settings,
     when: Now,
 ) -> usize
-    requires { ⌜ Planable g (when .clock) (now bytes) (k .left) (k .at) × (length (now bytes) ≤ maxBytes) × Arena g (now arena) × Fits g (now arena) (λ rows. allSent (setupNow g) rows (when .clock) (when .epoch) (ask g (when .clock)) (g .mode) (commandsOf (now bytes) k)) to (length (now out)) × Blank g (now arena) ⌝ }
-    ensures { λ r. ⌜ Puts g (now (arena .entry)) (λ rows. allSent (setupNow g) rows (when .clock) (when .epoch) (ask g (when .clock)) (g .mode) (commandsOf (now (bytes .entry)) k)) (now (out .entry)) to (now (out .exit)) r ⌝ }
+    requires { ⌜ Planable g (when .clock) (now bytes) (k .left) (k .at) × (length (now bytes) ≤ maxBytes) × Arena g (now arena)
+        × Fits g (now arena) (λ rows. allSent (setupNow g) rows (when .clock) (when .epoch) (ask g (when .clock)) (g .mode) (commandsOf (now bytes) k)) to (length (now out))
+        × Blank g (now arena) ⌝ }
+    ensures { λ r. ⌜ Puts g (now (arena .entry)) (λ rows. allSent (setupNow g) rows (when .clock) (when .epoch) (ask g (when .clock)) (g .mode) (commandsOf (now (bytes .entry)) k))
+        (now (out .entry)) to (now (out .exit)) r ⌝ }
 {
     let mut at = k.at;
     let mut left = k.left;
@@ -180,8 +188,11 @@ fn write_pipeline(
     g: Settings,
     when: Now,
 ) -> usize
-    requires { ⌜ Planable g (when .clock) (now bytes) (k .left) (k .at) × (length (now bytes) ≤ maxBytes) × Arena g (now arena) × Fits g (now arena) (λ rows. sendBytes (setupNow g) rows (when .clock) (when .epoch) g transaction (commandsOf (now bytes) k)) 0 (length (now out)) × Blank g (now arena) ⌝ }
-    ensures { λ r. ⌜ Puts g (now (arena .entry)) (λ rows. sendBytes (setupNow g) rows (when .clock) (when .epoch) g transaction (commandsOf (now (bytes .entry)) k)) (now (out .entry)) 0 (now (out .exit)) r ⌝ }
+    requires { ⌜ Planable g (when .clock) (now bytes) (k .left) (k .at) × (length (now bytes) ≤ maxBytes) × Arena g (now arena)
+        × Fits g (now arena) (λ rows. sendBytes (setupNow g) rows (when .clock) (when .epoch) g transaction (commandsOf (now bytes) k)) 0 (length (now out))
+        × Blank g (now arena) ⌝ }
+    ensures { λ r. ⌜ Puts g (now (arena .entry)) (λ rows. sendBytes (setupNow g) rows (when .clock) (when .epoch) g transaction (commandsOf (now (bytes .entry)) k))
+        (now (out .entry)) 0 (now (out .exit)) r ⌝ }
 {
     let from = planning_send_len::write_start(out, 0, transaction);
     let to = write_commands(out, from, bytes, k, arena, g, when);
@@ -191,7 +202,10 @@ fn write_pipeline(
 // A record that is one.
 fn send_record(bytes: &[u8], out: &mut [u8], arena: &[u8], g: Settings) -> Sent
     requires { ⌜ Arena g (now arena) × (length (now bytes) ≤ maxBytes) × (checkDef (now bytes) ≡ Fine) × Blank g (now arena) ⌝ }
-    ensures { λ r. ⌜ ((rows : ℕ → Row) (n : Counts) (next : ℕ) → Lent g (now (arena .entry)) rows → Settles (λ d. outputOf (recorded 0 0 (now (bytes .entry)) d (now (out .entry)) (held (now (arena .entry)) n next) g rows (recordAt (now (bytes .entry))))) (output r (now (out .exit)))) × Within r (length (now (out .entry))) ⌝ }
+    ensures { λ r. ⌜ ((rows : ℕ → Row) (n : Counts) (next : ℕ) → Lent g (now (arena .entry)) rows →
+        Settles (λ d. outputOf (recorded 0 0 (now (bytes .entry)) d (now (out .entry)) (held (now (arena .entry)) n next) g rows
+        (recordAt (now (bytes .entry))))) (output r (now (out .exit))))
+        × Within r (length (now (out .entry))) ⌝ }
 {
     let k = cursor::commands_of(bytes);
     if planning_ask::any_late(bytes, k, g, 0) {
@@ -214,7 +228,10 @@ fn send_record(bytes: &[u8], out: &mut [u8], arena: &[u8], g: Settings) -> Sent
 // A record of which it is known that it is not too long, on a cache.
 fn send_admitted(bytes: &[u8], out: &mut [u8], arena: &[u8], g: Settings) -> Sent
     requires { ⌜ Arena g (now arena) × (length (now bytes) ≤ maxRecord) × Blank g (now arena) ⌝ }
-    ensures { λ r. ⌜ ((rows : ℕ → Row) (n : Counts) (next : ℕ) → Lent g (now (arena .entry)) rows → Settles (λ d. outputOf (admittedTo 0 0 (now (bytes .entry)) d (now (out .entry)) (held (now (arena .entry)) n next) g rows)) (output r (now (out .exit)))) × Within r (length (now (out .entry))) ⌝ }
+    ensures { λ r. ⌜ ((rows : ℕ → Row) (n : Counts) (next : ℕ) → Lent g (now (arena .entry)) rows →
+        Settles (λ d. outputOf (admittedTo 0 0 (now (bytes .entry)) d (now (out .entry)) (held (now (arena .entry)) n next) g rows))
+        (output r (now (out .exit))))
+        × Within r (length (now (out .entry))) ⌝ }
 {
     match call_record::check(bytes) {
         Checked::Wrong(_) => Sent::Nothing,

@@ -1,4 +1,4 @@
--- `commands::listed` meets its contract: see ../Left.antt for the invariant. Assumes nothing.
+-- `commands::listed` meets its contract. The loop's invariant: the names that are left answer for all (`Left`). Assumes nothing.
 use Prim.Native.Nat.{_≤_, _+_, _-_}
 use mathlib.Core.Path.{_≡_, sym, _∙_}
 use mathlib.Core.List.{List}

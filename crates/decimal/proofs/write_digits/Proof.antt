@@ -1,4 +1,4 @@
--- `decimal::write_digits` meets its contract: see ../Written.antt for the invariant. Assumes nothing.
+-- `decimal::write_digits` meets its contract. The loop's invariant: the last digits are written (`Written`). Assumes nothing.
 use Prim.Native.Nat.{_≤_, _+_}
 use mathlib.Core.Path.{_≡_}
 use native.Mathlib.Omega.{arith}

@@ -1,4 +1,5 @@
--- `plan_check::is_plan` meets its contract. The loop's invariant: the bytes are a plan exactly if what is left where the walk stands is what has to follow. Assumes nothing.
+-- `plan_check::is_plan` meets its contract. The loop's invariant: the bytes are a plan exactly if what is left where the walk stands is what has to follow.
+-- Assumes nothing.
 use mathlib.Core.Path.{sym, subst, _∙_}
 use Prim.Native.Nat.{_-_}
 use native.Mathlib.Omega.{arith}

@@ -1,4 +1,5 @@
--- `push::invalidate_keys` meets its contract. The loop's invariant: what is left to do from the cursor on leads to the book after the whole push. Assumes nothing.
+-- `push::invalidate_keys` meets its contract. The loop's invariant: what is left to do from the cursor on leads to the book after the whole push. Assumes
+-- nothing.
 use mathlib.Core.Path.{_≡_, refl, _∙_}
 use native.Mathlib.Omega.{arith}
 use lib.ListN.{length}

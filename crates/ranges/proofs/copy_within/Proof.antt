@@ -4,10 +4,6 @@ use Rattle.ranges.proofs.Moves.{moved-back}
 use borrow.Author.Needs.{needs}
 use Rattle.ranges.proofs.copy_within.Statement.{statement}
 use Rattle.ranges.proofs.copy_within.Tie as tie
-use Rattle.ranges.proofs.copy_within.Reads as reads
-use Rattle.ranges.proofs.copy_within.Lts as lts
-use Rattle.ranges.proofs.move_down.Reads as move-down-reads
-use Rattle.ranges.proofs.move_up.Reads as move-up-reads
 
 returns : tie.Need-returns
 returns c = moved-back _ _ _ _ (c .if1 .taken) (omega arith)

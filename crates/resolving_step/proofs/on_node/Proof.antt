@@ -34,8 +34,13 @@ missing-requires c κs = search needs
 
 returns-6 : tie.Need-returns-6
 returns-6 c =
-    λ p nd es rs b h l. laws.on-missing p _ b _ _ _ _ _
-    (c .before .before .before .before .before .before .before .before .before .if1 .left, c .before .before .before .before .before .before .before .if2 .left, c .before .before .before .before .before .if3 .left, c .before .before .before .if4 .left, c .before .if5 .left)
+    λ p nd es rs b h l. laws.on-missing p _ b _ _ _ _ _ (
+      c .before .before .before .before .before .before .before .before .before .if1 .left,
+      c .before .before .before .before .before .before .before .if2 .left,
+      c .before .before .before .before .before .if3 .left,
+      c .before .before .before .if4 .left,
+      c .before .if5 .left,
+    )
     (c .missing .ensures) nd es rs h l
 
 pub on-node-spec : {M : Type 1} → statement M

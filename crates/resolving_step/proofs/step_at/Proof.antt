@@ -10,7 +10,8 @@ node-at-requires c κs = search needs
 on-node-requires : tie.Need-on-node-requires
 on-node-requires c κs =
     let a = c .before .before .before .before .before .pre .1 in
-    record { es = a .es; rs = a .rs; lists = record { replies = a .lists .replies; order = a .lists .order; within = a .lists .within; elements = a .lists .elements } }
+    let l = a .lists in
+    record { es = a .es; rs = a .rs; lists = record { replies = l .replies; order = l .order; within = l .within; elements = l .elements } }
 
 returns : tie.Need-returns
 returns c = laws.step-law _ _ _ _ _ _ _ (c .before .before .before .node-at .ensures) (c .on-node .ensures)

@@ -65,18 +65,18 @@ same-length c = search needs
 
 returns : tie.Need-returns
 returns c front back it w =
-    let size : ℕ = c .before .before .before .before .before .before .before .before .before .before .before .before .before .before .before .before .item-len .result in
-    let count : ℕ = c .before .before .before .before .before .before .before .before .before .before .before .before .before .before .read-u32 .result in
-    let used : ℕ = c .before .before .before .before .before .before .before .before .before .before .before .before .read-u322 .result in
+    let c₁₂ = c .before .before .before .before .before .before .before .before .before .before .before .before in
+    let size : ℕ = c₁₂ .before .before .before .before .item-len .result in
+    let count : ℕ = c₁₂ .before .before .read-u32 .result in
+    let used : ℕ = c₁₂ .read-u322 .result in
     c .before .before .write-u322 .ensures
     ∙ ap (λ (z : Bytes). put z 4 (le32 (used - size)))
     (c .before .before .before .before .before .before .write-u32 .ensures
     ∙ ap (λ (z : Bytes). put z 0 (le32 (count - 1))) (c .before .before .before .before .before .before .before .before .before .before .resize .ensures))
     ∙ taken-out w size count used
-    (c .before .before .before .before .before .before .before .before .before .before .before .before .before .before .before .before .item-len .ensures front back it w)
-    (c .before .before .before .before .before .before .before .before .before .before .before .before .before .before .read-u32 .ensures
-    ∙ count-read (w .holds))
-    (c .before .before .before .before .before .before .before .before .before .before .before .before .read-u322 .ensures ∙ used-read (w .holds))
+    (c₁₂ .before .before .before .before .item-len .ensures front back it w)
+    (c₁₂ .before .before .read-u32 .ensures ∙ count-read (w .holds))
+    (c₁₂ .read-u322 .ensures ∙ used-read (w .holds))
 
 pub remove-spec : {M : Type 1} → statement M
 remove-spec =

@@ -35,14 +35,15 @@ same-length c = search needs
 
 returns : tie.Need-returns
 returns c front back k e x ef em eb w u =
-    let a = c .before .before .before .before .before .before .before .before .before .before .before .before .before .before .before .before .before .before .before .before .before .before .before .args in
+    let c₁₄ = c .before .before .before .before .before .before .before .before .before .before .before .before .before .before in
+    let c₂₃ = c₁₄ .before .before .before .before .before .before .before .before .before in
+    let a = c₂₃ .args in
     written _ _ (c .before .before .write-u323 .ensures)
     (written _ _ (c .before .before .before .before .before .before .write-u322 .ensures)
     (written _ _ (c .before .before .before .before .before .before .before .before .before .before .write-u64 .ensures)
-    (written _ _ (c .before .before .before .before .before .before .before .before .before .before .before .before .before .before .write-u32 .ensures)
-    (c .before .before .before .before .before .before .before .before .before .before .before .before .before .before .before .before .before .before .splice-entry .ensures))))
+    (written _ _ (c₁₄ .write-u32 .ensures) (c₁₄ .before .before .before .before .splice-entry .ensures))))
     ∙ entry-set (a .s .now) (a .command .now) (a .value .now) (a .at) (a .from) (a .to) (a .end) (a .fields) front back k e x ef em eb
-    (c .before .before .before .before .before .before .before .before .before .before .before .before .before .before .before .before .before .before .before .before .before .before .before .pre .0) w u
+    (c₂₃ .pre .0) w u
 
 pub set-entry-spec : {M : Type 1} → statement M
 set-entry-spec =

@@ -47,12 +47,12 @@ same-length c = search needs
 
 returns : tie.Need-returns
 returns c =
-    let a = c .before .before .before .before .before .before .before .before .before .before .before .before .before .before .before .before .before .before .before .before .before .before .before .args in
+    let c₁₄ = c .before .before .before .before .before .before .before .before .before .before .before .before .before .before in
+    let a = c₁₄ .before .before .before .before .before .before .before .before .before .args in
     written _ _ (c .before .before .copy-to2 .ensures)
     (written _ _ (c .before .before .before .before .before .before .copy-to .ensures)
     (written _ _ (c .before .before .before .before .before .before .before .before .before .before .write-u64 .ensures)
-    (written _ _ (c .before .before .before .before .before .before .before .before .before .before .before .before .before .before .write-u322 .ensures)
-    (c .before .before .before .before .before .before .before .before .before .before .before .before .before .before .before .before .before .before .write-u32 .ensures))))
+    (written _ _ (c₁₄ .write-u322 .ensures) (c₁₄ .before .before .before .before .write-u32 .ensures))))
     ∙ entry-written (a .s .now) (a .command .now) (a .value .now) (a .at) (omega arith)
 
 pub write-entry-spec : {M : Type 1} → statement M

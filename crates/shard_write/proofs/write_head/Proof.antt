@@ -44,13 +44,14 @@ same-length c = search needs
 
 returns : tie.Need-returns
 returns c =
-    let a = c .before .before .before .before .before .before .before .before .before .before .before .before .before .before .before .before .before .before .before .before .before .before .before .before .before .args in
+    let c₁₄ = c .before .before .before .before .before .before .before .before .before .before .before .before .before .before in
+    let a = c₁₄ .before .before .before .before .before .before .before .before .before .before .before .args in
     written _ _ (c .before .before .write-u324 .ensures)
     (written _ _ (c .before .before .before .before .before .before .write-u323 .ensures)
     (written _ _ (c .before .before .before .before .before .before .before .before .before .before .write-u642 .ensures)
-    (written _ _ (c .before .before .before .before .before .before .before .before .before .before .before .before .before .before .write-u64 .ensures)
-    (written _ _ (c .before .before .before .before .before .before .before .before .before .before .before .before .before .before .before .before .before .before .write-u322 .ensures)
-    (c .before .before .before .before .before .before .before .before .before .before .before .before .before .before .before .before .before .before .before .before .before .before .write-u32 .ensures)))))
+    (written _ _ (c₁₄ .write-u64 .ensures)
+    (written _ _ (c₁₄ .before .before .before .before .write-u322 .ensures)
+    (c₁₄ .before .before .before .before .before .before .before .before .write-u32 .ensures)))))
     ∙ head-written (a .s .now) (a .at) (a .key) (a .count) (a .epoch) (a .expiry) (a .bytes) (omega arith)
 
 pub write-head-spec : {M : Type 1} → statement M

@@ -4,9 +4,6 @@ use Rattle.single_calls.specs.Answers.{lookedUp}
 use borrow.Author.Needs.{needs}
 use Rattle.single_calls.proofs.counted.Statement.{statement}
 use Rattle.single_calls.proofs.counted.Tie as tie
-use Rattle.single_calls.proofs.counted.Reads as reads
-use Rattle.single_calls.proofs.counted.Lts as lts
-use Rattle.single_calls.proofs.more.Reads as more-reads
 
 enum-known-found : tie.Need-enum-known-found
 enum-known-found c = search needs

@@ -6,10 +6,6 @@ use Rattle.single_calls.proofs.Ways.{not-admitted, is-admitted, invalid
 use borrow.Author.Needs.{needs}
 use Rattle.single_calls.proofs.invalidate.Statement.{statement}
 use Rattle.single_calls.proofs.invalidate.Tie as tie
-use Rattle.single_calls.proofs.invalidate.Reads as reads
-use Rattle.single_calls.proofs.invalidate.Lts as lts
-use Rattle.sharded_lru.proofs.admit.Reads as admit-reads
-use Rattle.single_calls.proofs.invalidate_admitted.Reads as invalidate-admitted-reads
 
 admit-requires : tie.Need-admit-requires
 admit-requires c κs = search needs

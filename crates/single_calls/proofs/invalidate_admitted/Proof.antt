@@ -6,11 +6,6 @@ use Rattle.single_calls.proofs.Ways.{too-long, invalidation-refused, in
 use borrow.Author.Needs.{needs}
 use Rattle.single_calls.proofs.invalidate_admitted.Statement.{statement}
 use Rattle.single_calls.proofs.invalidate_admitted.Tie as tie
-use Rattle.single_calls.proofs.invalidate_admitted.Reads as reads
-use Rattle.single_calls.proofs.invalidate_admitted.Lts as lts
-use Rattle.sharded_lru.proofs.invalidate.Reads as invalidate-reads
-use Rattle.single_calls.proofs.more.Reads as more-reads
-use Rattle.single_calls.proofs.too_long.Reads as too-long-reads
 
 too-long-requires : tie.Need-too-long-requires
 too-long-requires c κs = search needs

@@ -6,10 +6,6 @@ use Rattle.single_calls.proofs.Ways.{not-admitted, is-admitted, place-a
 use borrow.Author.Needs.{needs}
 use Rattle.single_calls.proofs.lookup.Statement.{statement}
 use Rattle.single_calls.proofs.lookup.Tie as tie
-use Rattle.single_calls.proofs.lookup.Reads as reads
-use Rattle.single_calls.proofs.lookup.Lts as lts
-use Rattle.sharded_lru.proofs.admit.Reads as admit-reads
-use Rattle.single_calls.proofs.lookup_admitted.Reads as lookup-admitted-reads
 
 admit-requires : tie.Need-admit-requires
 admit-requires c κs = search needs

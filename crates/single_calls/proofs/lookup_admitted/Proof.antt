@@ -6,11 +6,6 @@ use Rattle.single_calls.proofs.Ways.{too-long, no-place-left, lookup-re
 use borrow.Author.Needs.{needs}
 use Rattle.single_calls.proofs.lookup_admitted.Statement.{statement}
 use Rattle.single_calls.proofs.lookup_admitted.Tie as tie
-use Rattle.single_calls.proofs.lookup_admitted.Reads as reads
-use Rattle.single_calls.proofs.lookup_admitted.Lts as lts
-use Rattle.sharded_lru.proofs.get.Reads as get-reads
-use Rattle.single_calls.proofs.counted.Reads as counted-reads
-use Rattle.single_calls.proofs.too_long.Reads as too-long-reads
 
 too-long-requires : tie.Need-too-long-requires
 too-long-requires c κs = search needs

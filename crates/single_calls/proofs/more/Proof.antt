@@ -2,11 +2,6 @@
 use borrow.Author.Needs.{needs}
 use Rattle.single_calls.proofs.more.Statement.{statement}
 use Rattle.single_calls.proofs.more.Tie as tie
-use Rattle.single_calls.proofs.more.Reads as reads
-use Rattle.single_calls.proofs.more.Lts as lts
-use Rattle.statistics.proofs.Statistics.increase_hit.Reads as increase-hit-reads
-use Rattle.statistics.proofs.Statistics.increase_invalidate.Reads as increase-invalidate-reads
-use Rattle.statistics.proofs.Statistics.increase_miss.Reads as increase-miss-reads
 
 increase-hit-requires : tie.Need-increase-hit-requires
 increase-hit-requires c κs = search needs

@@ -6,10 +6,6 @@ use Rattle.single_calls.proofs.Ways.{not-admitted, is-admitted, left-re
 use borrow.Author.Needs.{needs}
 use Rattle.single_calls.proofs.store.Statement.{statement}
 use Rattle.single_calls.proofs.store.Tie as tie
-use Rattle.single_calls.proofs.store.Reads as reads
-use Rattle.single_calls.proofs.store.Lts as lts
-use Rattle.sharded_lru.proofs.admit.Reads as admit-reads
-use Rattle.single_calls.proofs.store_admitted.Reads as store-admitted-reads
 
 admit-requires : tie.Need-admit-requires
 admit-requires c κs = search needs

@@ -8,11 +8,6 @@ use Rattle.single_calls.proofs.Ways.{too-long, bad-bytes, left-refused,
 use borrow.Author.Needs.{needs}
 use Rattle.single_calls.proofs.store_admitted.Statement.{statement}
 use Rattle.single_calls.proofs.store_admitted.Tie as tie
-use Rattle.single_calls.proofs.store_admitted.Reads as reads
-use Rattle.single_calls.proofs.store_admitted.Lts as lts
-use Rattle.resp3.proofs.is_value.Reads as is-value-reads
-use Rattle.sharded_lru.proofs.insert.Reads as insert-reads
-use Rattle.single_calls.proofs.too_long.Reads as too-long-reads
 
 too-long-requires : tie.Need-too-long-requires
 too-long-requires c κs = search needs

@@ -2,8 +2,6 @@
 use borrow.Author.Tests.{lt-ltb, le-ltb}
 use Rattle.single_calls.proofs.too_long.Statement.{statement}
 use Rattle.single_calls.proofs.too_long.Tie as tie
-use Rattle.single_calls.proofs.too_long.Reads as reads
-use Rattle.single_calls.proofs.too_long.Lts as lts
 
 returns : tie.Need-returns
 returns c = rw (lt-ltb _ _ (c .if1 .taken))

@@ -1,4 +1,5 @@
--- `last_word` meets its contract. The loop's invariant: m is the number that the places from i to the seventh behind the whole words spell, where a place past the end counts 0. Assumes nothing.
+-- `last_word` meets its contract. The loop's invariant: m is the number that the places from i to the seventh behind the whole words spell, where a place
+-- past the end counts 0. Assumes nothing.
 use mathlib.Core.Path.{_≡_, sym, _∙_}
 use Prim.Native.Nat.{_+_, _-_, _*_, _/_, _≤_}
 use native.Mathlib.Omega.{arith}

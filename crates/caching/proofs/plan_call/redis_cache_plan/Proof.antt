@@ -1,8 +1,6 @@
 -- `caching::plan_call::redis_cache_plan` meets its contract: a walk by hand of its MIR. It calls `plan_counting`, which gets the arena and the two buffers
--- for good,
--- then `statistics::increase`, which gets the counts record (Increase.antt), and returns what it was told to. Of the two functions all that is known is that
--- they
--- meet their contracts. Assumes nothing.
+-- for good, then `statistics::increase`, which gets the counts record (Increase.antt), and returns what it was told to. Of the two functions all that is
+-- known is that they meet their contracts. Assumes nothing.
 use mathlib.Core.Path.{_≡_, refl, ap}
 use Prim.Native.Nat.{ℕ, _<_, _^_}
 use mathlib.Core.List.{[], _∷_, _++_, List}

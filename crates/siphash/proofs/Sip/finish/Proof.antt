@@ -16,7 +16,11 @@ sip-round-requires-3 c κs = search needs
 returns : tie.Need-returns
 unfolding finished rounds
 returns c =
-    rw (c .before .before .before .sip-round3 .ensures, c .before .before .before .before .sip-round2 .ensures, c .before .before .before .before .before .sip-round .ensures)
+    rw (
+      c .before .before .before .sip-round3 .ensures,
+      c .before .before .before .before .sip-round2 .ensures,
+      c .before .before .before .before .before .sip-round .ensures,
+    )
 
 pub finish-spec : {M : Type 1} → statement M
 finish-spec =

@@ -37,7 +37,18 @@ rotl-requires-6 c κs = search needs
 returns : tie.Need-returns
 unfolding sipRound
 returns c =
-    rw (c .rotl6 .ensures, c .before .rotl5 .ensures, c .before .before .rotl4 .ensures, c .before .before .before .wrapping-add-u644 .ensures, c .before .before .before .before .rotl3 .ensures, c .before .before .before .before .before .wrapping-add-u643 .ensures, c .before .before .before .before .before .before .rotl2 .ensures, c .before .before .before .before .before .before .before .rotl .ensures, c .before .before .before .before .before .before .before .before .wrapping-add-u642 .ensures, c .before .before .before .before .before .before .before .before .before .wrapping-add-u64 .ensures)
+    rw (
+      c .rotl6 .ensures,
+      c .before .rotl5 .ensures,
+      c .before .before .rotl4 .ensures,
+      c .before .before .before .wrapping-add-u644 .ensures,
+      c .before .before .before .before .rotl3 .ensures,
+      c .before .before .before .before .before .wrapping-add-u643 .ensures,
+      c .before .before .before .before .before .before .rotl2 .ensures,
+      c .before .before .before .before .before .before .before .rotl .ensures,
+      c .before .before .before .before .before .before .before .before .wrapping-add-u642 .ensures,
+      c .before .before .before .before .before .before .before .before .before .wrapping-add-u64 .ensures,
+    )
 
 pub sip-round-spec : {M : Type 1} → statement M
 sip-round-spec =
