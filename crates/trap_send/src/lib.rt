@@ -6,12 +6,12 @@ use config::Settings;
 use cursor::Commands;
 use cursor::Head;
 use planning_ask::Asked;
-use planning_dry_pass::Room;
 use planning_outcome::CacheableCommand;
 use planning_outcome::CachingResult;
 use planning_outcome::PrepCacheItem;
 use planning_outcome::Served;
 use planning_places::Source;
+use room::Room;
 use sharded_lru::Admitted;
 ghost use mathlib.Core.Path.{_≡_};
 ghost use Prim.Native.Nat.{ℕ, _≤_};
@@ -25,7 +25,7 @@ ghost use Rattle.sharded_lru.specs.Lent.{setupNow, Lent, Arena};
 ghost use Rattle.planning_outcome.specs.Sizes.{sentFor, allSent};
 ghost use Rattle.trap_send.specs.Walk.{Fits, Puts};
 ghost use Rattle.trap_send.specs.Blank.{Blank, Waits};
-ghost use Rattle.planning_dry_pass.specs.Room.{spent};
+ghost use Rattle.room.specs.Room.{spent};
 ghost use Rattle.planning_dry_pass.specs.Dry.{Planable, One};
 ghost use Rattle.cache_manager.specs.Pipeline.{recorded, admittedTo};
 ghost use Rattle.cache_manager.specs.Planned.{sendBytes};
@@ -145,7 +145,7 @@ fn send_room(
     let mut q = room;
     while left > 0 {
         let head = cursor::head_at(bytes, at);
-        q = planning_dry_pass::spend(q, command_len(bytes, head, arena, g, clock, epoch));
+        q = room::spend(q, command_len(bytes, head, arena, g, clock, epoch));
         at = cursor::args_end(bytes, head.args);
         left -= 1;
     }
@@ -211,7 +211,7 @@ fn send_record(bytes: &[u8], out: &mut [u8], arena: &[u8], g: Settings) -> Sent
         left: out.len(),
         short: false,
     };
-    let room = planning_dry_pass::spend(whole, planning_send_len::wrap_len(transaction));
+    let room = room::spend(whole, planning_send_len::wrap_len(transaction));
     let rest = send_room(bytes, k, arena, g, 0, 0, room);
     if rest.short {
         return Sent::Nothing;
