@@ -17,7 +17,7 @@ use Rattle.book.specs.Calls.{Call, ons, eventsOf, afterCalls}
 use Rattle.book.specs.Each.{Each}
 use Rattle.book.specs.Trace.{Proper}
 use Rattle.book.specs.Storable.{StorableEntries, StorableEvent, StorableCalls}
-use Rattle.arena.specs.All.{All}
+use Rattle.format.specs.Runs.{All}
 use Rattle.arena.specs.Layout.{encode}
 use Rattle.arena.specs.Decode.{mayStore, decode}
 use Rattle.arena.specs.Tests.{Fits}

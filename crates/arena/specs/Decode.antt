@@ -10,7 +10,7 @@ use lib.Dec.{eqb, leb, ltb}
 use Rattle.buffer.specs.Same.{Bytes, same}
 use Rattle.buffer.specs.Field.{read32, read64}
 use Rattle.buffer.specs.Part.{part}
-use Rattle.config.specs.Limits.{maxKey, maxBytes}
+use Rattle.config.specs.Limits.{maxKey, maxCommandKey}
 use Rattle.book.specs.Book.{Setup, Entry, Item, Row, find, valueFor, fits}
 use Rattle.arena.specs.Layout.{encode}
 
@@ -71,7 +71,7 @@ module _ (isValue : Bytes → Bool) where
   -- what may be stored: "[keys] at most 65,535 bytes each", "[command keys] at most 16 MiB each; a value is exactly one RESP3 value of at most 16 MiB
   -- that nests at most 16 deep"
   unfoldable pub mayStore : Bytes → Bytes → Bytes → Bool
-  mayStore k c v = every (leb (length k) maxKey ∷ leb (length c) maxBytes ∷ isValue v ∷ [])
+  mayStore k c v = every (leb (length k) maxKey ∷ leb (length c) maxCommandKey ∷ isValue v ∷ [])
 
   -- every entry of an item may be stored; epoch and expiry are numbers of 64 bits
   unfoldable pub itemFits : Item → Bool

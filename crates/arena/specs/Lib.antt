@@ -2,7 +2,6 @@ pub mod Layout
 pub mod Decode
 pub mod Place
 pub mod Cases
-pub mod All
 pub mod Length
 pub mod Read
 pub mod Around

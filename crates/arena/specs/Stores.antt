@@ -12,7 +12,7 @@ use Rattle.book.specs.Book.{Setup, Entry, Item, Row, find, replace, valueFor, s
 use Rattle.book.specs.Book.{Keyed, store, effectOn}
 use Rattle.book.specs.Each.{Each}
 use Rattle.book.specs.Sound.{DistinctCommands, Sound}
-use Rattle.arena.specs.All.{All, all-append}
+use Rattle.format.specs.Runs.{All, all-append}
 use Rattle.arena.specs.Pieces.{entryBytes-append}
 
 -- ---- the stores

@@ -14,7 +14,7 @@ use Rattle.buffer.specs.Field.{readLe, read32}
 use Rattle.buffer.specs.Part.{part}
 use Rattle.buffer.specs.Step.{part-cons}
 use Rattle.buffer.specs.Zero.{allZero}
-use Rattle.config.specs.Limits.{maxBytes}
+use Rattle.config.specs.Limits.{maxCommandKey}
 use Rattle.resp3.specs.Ends.{isValue}
 use Rattle.arena.specs.Decode.{every}
 use Rattle.arena.specs.Tests.{every-yes}
@@ -100,13 +100,13 @@ module _ (isValue : Bytes → Bool) (s : Bytes) (end at : ℕ) where
       unfolding entryOk every
       entry-filled z = rw (le-leb (at + 16) end h, le-leb (entryNext s at) end l, z)
 
-      pub entry-command : allZero (part s (at + 8) 8) ≡ true → maxBytes < read32 s at → entryOk isValue s end at ≡ false
+      pub entry-command : allZero (part s (at + 8) 8) ≡ true → maxCommandKey < read32 s at → entryOk isValue s end at ≡ false
       unfolding entryOk every
-      entry-command z c = rw (le-leb (at + 16) end h, le-leb (entryNext s at) end l, z, lt-leb (read32 s at) maxBytes c)
+      entry-command z c = rw (le-leb (at + 16) end h, le-leb (entryNext s at) end l, z, lt-leb (read32 s at) maxCommandKey c)
 
-      pub entry-value : allZero (part s (at + 8) 8) ≡ true → read32 s at ≤ maxBytes → entryOk isValue s end at ≡ isValue (valueAt s at)
+      pub entry-value : allZero (part s (at + 8) 8) ≡ true → read32 s at ≤ maxCommandKey → entryOk isValue s end at ≡ isValue (valueAt s at)
       unfolding entryOk every
-      entry-value z c = rw (le-leb (at + 16) end h, le-leb (entryNext s at) end l, z, le-leb (read32 s at) maxBytes c) (if-same (isValue (valueAt s at)))
+      entry-value z c = rw (le-leb (at + 16) end h, le-leb (entryNext s at) end l, z, le-leb (read32 s at) maxCommandKey c) (if-same (isValue (valueAt s at)))
         where
           if-same : (b : Bool) → cond b true false ≡ b
           if-same true = refl

@@ -9,7 +9,7 @@ use Rattle.buffer.specs.Same.{Bytes}
 use Rattle.buffer.specs.Field.{read32}
 use Rattle.buffer.specs.Part.{part}
 use Rattle.buffer.specs.Zero.{allZero}
-use Rattle.config.specs.Limits.{maxKey, maxBytes}
+use Rattle.config.specs.Limits.{maxKey, maxCommandKey}
 use Rattle.book.specs.Book.{Setup}
 use Rattle.arena.specs.Decode.{every}
 use Rattle.arena_check.specs.Walk.{walk}
@@ -54,7 +54,7 @@ module _ (isValue : Bytes → Bool) where
   -- an entry stands there, within `end`
   unfoldable pub entryOk : Bytes → ℕ → ℕ → Bool
   entryOk s end at =
-      every (leb (at + 16) end ∷ leb (entryNext s at) end ∷ allZero (part s (at + 8) 8) ∷ leb (read32 s at) maxBytes ∷ isValue (valueAt s at) ∷ [])
+      every (leb (at + 16) end ∷ leb (entryNext s at) end ∷ allZero (part s (at + 8) 8) ∷ leb (read32 s at) maxCommandKey ∷ isValue (valueAt s at) ∷ [])
 
   -- where n entries end that stand from `first` on, within `end`; 0 where they do not, or a command key is there twice
   unfoldable pub entriesEnd : Bytes → ℕ → ℕ → ℕ → ℕ

@@ -12,10 +12,10 @@ use Rattle.buffer.specs.Same.{Bytes, same}
 use Rattle.buffer.specs.Field.{Octets, read32}
 use Rattle.buffer.specs.Part.{part, part-add, part-at, length-part}
 use Rattle.buffer.specs.Zero.{allZero, zeros-pass}
-use Rattle.config.specs.Limits.{maxBytes}
+use Rattle.config.specs.Limits.{maxCommandKey}
 use Rattle.book.specs.Book.{Entry, valueFor, entryBytes}
 use Rattle.book.specs.Sound.{DistinctCommands}
-use Rattle.arena.specs.All.{All}
+use Rattle.format.specs.Runs.{All}
 use Rattle.arena.specs.Layout.{zeros, head, encEntry, encEntries}
 use Rattle.arena.specs.Length.{length-entry, length-entries}
 use Rattle.arena.specs.Read.{command-length, value-length, entry-command, entry-value}
@@ -73,7 +73,7 @@ differ-commands (en ∷ ens) d = (differ-absent (en .command) ens (d .0), differ
 
 -- an entry that may be stored
 abbrev pub GoodEntry : (Bytes → Bool) → Entry → Type 0
-GoodEntry isValue en = (length (en .command) ≤ maxBytes) × (isValue (en .value) ≡ true)
+GoodEntry isValue en = (length (en .command) ≤ maxCommandKey) × (isValue (en .value) ≡ true)
 
 module _ (isValue : Bytes → Bool) (s : Bytes) (end : ℕ) where
   abbrev pub EntryStands : ℕ → Entry → Type 0
@@ -119,7 +119,7 @@ module _ (isValue : Bytes → Bool) (s : Bytes) (end : ℕ) where
           le-leb (length A + 16) end (omega arith),
           (
             le-leb (entryNext s (length A)) end (omega arith),
-            (z, (le-leb (read32 s (length A)) maxBytes (subst (λ (n : ℕ). n ≤ maxBytes) (sym c) (g .0)), (ap isValue value ∙ g .1, tt))),
+            (z, (le-leb (read32 s (length A)) maxCommandKey (subst (λ (n : ℕ). n ≤ maxCommandKey) (sym c) (g .0)), (ap isValue value ∙ g .1, tt))),
           ),
         );
         good = g;

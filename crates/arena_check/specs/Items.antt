@@ -12,12 +12,12 @@ use Rattle.buffer.specs.Same.{Bytes, same}
 use Rattle.buffer.specs.Field.{Octets, read32, read64, read-below}
 use Rattle.buffer.specs.Part.{part, part-add, part-at, length-part}
 use Rattle.buffer.specs.Zero.{allZero, zeros-pass}
-use Rattle.config.specs.Limits.{maxKey, maxBytes}
+use Rattle.config.specs.Limits.{maxKey, maxCommandKey}
 use Rattle.book.specs.Book.{Setup, Entry, Item, Row, find, entryBytes, rowBytes}
 use Rattle.book.specs.Rows.{Distinct}
 use Rattle.book.specs.Sound.{SoundItem}
 use Rattle.book.specs.Storable.{StorableEntries}
-use Rattle.arena.specs.All.{All}
+use Rattle.format.specs.Runs.{All}
 use Rattle.arena.specs.Decode.{mayStore}
 use Rattle.arena.specs.Image.{row-small}
 use Rattle.arena.specs.Layout.{zeros, itemHead, encEntries, encItem, encItems}
@@ -43,7 +43,7 @@ module _ (isValue : Bytes → Bool) (p : Setup) (s : Bytes) (shard end : ℕ) wh
   unfolding mayStore
   entries-storable k [] l w = tt
   entries-storable k (en ∷ ens) l w =
-      (yes-every _ (le-leb (length k) maxKey l, (le-leb (length (en .command)) maxBytes (w .0 .0), (w .0 .1, tt))), entries-storable k ens l (w .1))
+      (yes-every _ (le-leb (length k) maxKey l, (le-leb (length (en .command)) maxCommandKey (w .0 .0), (w .0 .1, tt))), entries-storable k ens l (w .1))
 
   storable-entries : (k : Bytes) (ens : List Entry) → StorableEntries (mayStore isValue) k ens → All (GoodEntry isValue) ens
   unfolding mayStore

@@ -10,7 +10,7 @@ use lib.ListN.{length, length-append}
 use Rattle.buffer.specs.Cases.{byTest}
 use Rattle.buffer.specs.Same.{Bytes, same}
 use Rattle.buffer.specs.Part.{part, part-add}
-use Rattle.arena.specs.All.{All, all-append}
+use Rattle.format.specs.Runs.{All, all-append}
 
 -- ---- the walk
 

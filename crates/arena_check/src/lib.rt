@@ -321,7 +321,7 @@ fn entry_ok(s: &[u8], end: usize, at: usize) -> bool
     if buffer::read_u64(s, at + 8) != 0 {
         return false;
     }
-    if c > config::MAX_BYTES {
+    if c > config::MAX_COMMAND_KEY {
         return false;
     }
     resp3::value_in(s, from, next)

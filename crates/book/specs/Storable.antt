@@ -59,7 +59,7 @@ module _ (may : Bytes → Bytes → Bytes → Bool) where
       byTest (same c (en .command)) (λ e. rw e (g, w .1)) (λ e. rw e (w .0, set-storable k c v ens g (w .1)))
 
   -- a store that may be made brings in what may be stored
-  brings-storable : (q : Keyed) → StorableKeyed q → Brings StorableItem q
+  pub brings-storable : (q : Keyed) → StorableKeyed q → Brings StorableItem q
   brings-storable (lookup k c t e) g = tt
   brings-storable (store k c v x e) g = (
     record { entries = (g .0, tt); epoch = g .2; expiry = g .1 },

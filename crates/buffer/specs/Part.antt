@@ -1,6 +1,6 @@
 -- Parts of a list, read (`part`) and replaced (`put`), and how the two meet. For every element type. Assumes nothing.
 use mathlib.Core.Path.{_≡_, refl, ap, _∙_, sym}
-use mathlib.Core.List.{List, _++_, append-assoc}
+use mathlib.Core.List.{List, [], _++_, append-assoc, append-nil}
 use Prim.Native.Nat.{ℕ, _+_, _-_, _≤_, _<_}
 use native.Mathlib.Omega.{arith}
 use lib.ListN.{length, getD, take, drop, length-append, length-take, length-drop, take-append-drop}
@@ -102,6 +102,10 @@ module _ {ℓ} {A : Type ℓ} where
       let a : take at (X ++ (M ++ Z)) ≡ X = take-at X (M ++ Z) at x in
       let b : drop (at + length bs) (X ++ (M ++ Z)) ≡ Z = drop-past X (M ++ Z) at (length bs) x ∙ drop-at M Z (length bs) m in
       cc
+
+  -- what is put over a whole list takes its place
+  pub put-all : (s bs : List A) → length s ≡ length bs → put s 0 bs ≡ bs
+  put-all s bs e = ap (λ (z : List A). put z 0 bs) (sym (append-nil s)) ∙ put-at [] s [] bs 0 refl e ∙ append-nil bs
 
   -- put where the second of two lists begins or later
   pub put-past : (X Y bs : List A) (at k : ℕ) → length X ≡ at → put (X ++ Y) (at + k) bs ≡ X ++ put Y k bs

@@ -23,8 +23,9 @@ use Rattle.sharded_lru.specs.Lent.{setupNow, Lent, Arena}
 use Rattle.planning_outcome.specs.Sizes.{allNodes, allSent, sentCount}
 use Rattle.planning_send_len.specs.Wrapped.{startBytes, endBytes}
 use Rattle.planning_look_up.specs.Looks.{Keeps}
-use Rattle.planning_dry_pass.specs.Room.{spent, whole, spent-more, whole-short}
-use Rattle.planning_dry_pass.specs.declared.Room.{Room as Rest}
+use Rattle.room.specs.Room.{spent, whole, spent-more, whole-short}
+use Rattle.room.specs.declared.Room.{Room as Rest}
+use Rattle.planning.specs.Plan.{planHeadSize}
 use Rattle.planning_second_pass.specs.Does.{Does, Room}
 use Rattle.planning_second_pass.specs.declared.Progress.{Progress}
 use Rattle.cache_manager.specs.Pipeline.{returnedOf, wrote}
@@ -42,9 +43,9 @@ room-short R n P x y q l =
     ∙ ap (ltb R) (sym (ap length q ∙ length-append x y ∙ ap (λ (z : ℕ). z + length y) l))
 
 module _ (p : Setup) (rows : ℕ → Row) (t e : ℕ) (g : Settings) (b : Bool) (cs : List Command) where
-  pub plan-short : (R : ℕ) → spent (spent (whole R) 8) (length (allNodes p rows t e (ask g t) cs)) .short ≡ ltb R (length (planBytes p rows t e g b cs))
+  pub plan-short : (R : ℕ) → spent (spent (whole R) planHeadSize) (length (allNodes p rows t e (ask g t) cs)) .short ≡ ltb R (length (planBytes p rows t e g b cs))
   unfolding planBytes
-  plan-short R = room-short R 8 _ (planHead b (length cs)) (allNodes p rows t e (ask g t) cs) refl (length-plan-head b (length cs))
+  plan-short R = room-short R planHeadSize _ (planHead b (length cs)) (allNodes p rows t e (ask g t) cs) refl (length-plan-head b (length cs))
 
   pub send-short : (S w : ℕ) → w ≡ length (startBytes b) + length (endBytes b)
       → spent (spent (whole S) w) (length (allSent p rows t e (ask g t) (g .mode) cs)) .short ≡ ltb S (length (sendBytes p rows t e g b cs))
@@ -76,7 +77,7 @@ module _ (g : Settings) (t e : ℕ) (b : Bool) (cs : List Command) (a d f : Byte
     (room : (rows : ℕ → Row) → Lent g a rows → (length (planBytes (setupNow g) rows t e g b cs) ≤ length d)
     × (length (sendBytes (setupNow g) rows t e g b cs) ≤ length f))
     (v : Arena g a) where
-  pub head-fits : 8 ≤ length d
+  pub head-fits : planHeadSize ≤ length d
   unfolding planBytes
   head-fits =
       let h = room (v .rows) (v .lent) .0 in
@@ -98,7 +99,7 @@ numbers true n m x n′ m′ x′ p q r = rw (p, q, r)
 numbers false n m x n′ m′ x′ p q r = rw (p, q, r)
 
 module _ (g : Settings) (t e : ℕ) (b : Bool) (cs : List Command) (a d f d₁ f₁ : Bytes) (to from n : ℕ) (counts : Statistics)
-    (k : length cs ≡ n) (i : (to ≡ 8) × (d₁ ≡ put d 0 (planHead b n))) (j : Wrote f 0 (startBytes b) f₁ from)
+    (k : length cs ≡ n) (i : (to ≡ planHeadSize) × (d₁ ≡ put d 0 (planHead b n))) (j : Wrote f 0 (startBytes b) f₁ from)
     (room : (rows : ℕ → Row) → Lent g a rows → (length (planBytes (setupNow g) rows t e g b cs) ≤ length d)
     × (length (sendBytes (setupNow g) rows t e g b cs) ≤ length f)) where
   -- the heads are written

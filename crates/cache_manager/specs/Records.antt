@@ -31,7 +31,7 @@ use Rattle.sharded_lru.specs.Lent.{setupNow}
 use Rattle.sharded_lru.specs.Admit.{admitted}
 use Rattle.sharded_lru.specs.declared.Admitted.the-variants.{Refused as NotAdmitted}
 use Rattle.call_entry.specs.Laws.{is-entered, not-entered}
-use Rattle.planning_look_up.specs.Looks.{countsOf}
+use Rattle.statistics.specs.OfBook.{countsOf}
 use Rattle.planning_dry_pass.specs.Dry.{Planable}
 use Rattle.call_entry.specs.Entered.{holding}
 use Rattle.cache_manager.specs.Pipeline.{Returned, refusedAs, wrongAt, Left, refusal, recorded, judged, admittedTo, planCall, returnedOf, Leaves}

@@ -4,8 +4,8 @@ use call_record::Checked;
 use config::Now;
 use config::Settings;
 use cursor::Commands;
-use planning_dry_pass::Room;
 use planning_second_pass::Progress;
+use room::Room;
 use sharded_lru::Admitted;
 use statistics::Statistics;
 ghost use mathlib.Core.Path.{_≡_};
@@ -22,7 +22,7 @@ ghost use Rattle.planning_look_up.specs.Looks.{Keeps};
 ghost use Rattle.planning_dry_pass.specs.Dry.{Planable};
 ghost use Rattle.call_record.specs.declared.Checked.the-variants.{Fine};
 ghost use Rattle.cache_manager.specs.declared.Pipelined.the-variants.{Refused};
-ghost use Rattle.planning_look_up.specs.Looks.{countsOf};
+ghost use Rattle.statistics.specs.OfBook.{countsOf};
 ghost use Rattle.call_entry.specs.Entered.{holding};
 ghost use Rattle.cache_manager.specs.Pipeline.{planCall, recorded, admittedTo, Leaves};
 ghost use Rattle.cache_manager.specs.Planned.{planBytes, sendBytes};
@@ -91,12 +91,12 @@ fn is_short(
         left: plan,
         short: false,
     };
-    let p = planning_dry_pass::spend(whole, 8);
+    let p = room::spend(whole, planning::PLAN_HEAD);
     let empty = Room {
         left: send,
         short: false,
     };
-    let q = planning_dry_pass::spend(empty, planning_send_len::wrap_len(transaction));
+    let q = room::spend(empty, planning_send_len::wrap_len(transaction));
     planning_dry_pass::dry_pass(bytes, k, arena, g, when, p, q)
 }
 

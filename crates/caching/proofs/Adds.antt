@@ -10,7 +10,8 @@ use Rattle.single_calls.specs.declared.Invalidated.{Invalidated}
 use Rattle.single_calls.specs.declared.LookedUp.{LookedUp}
 use Rattle.single_calls.specs.Single.{Return}
 use Rattle.call_entry.specs.Entered.{holding}
-use Rattle.single_calls.specs.Answers.{countsOf, LookupLeft, InvalidationLeft}
+use Rattle.statistics.specs.OfBook.{countsOf}
+use Rattle.single_calls.specs.Answers.{LookupLeft, InvalidationLeft}
 use Rattle.cache_manager.specs.declared.CachedPipeline.{CachedPipeline}
 use Rattle.cache_manager.specs.Pipeline.{Left, Leaves, returnedOf}
 use Rattle.caching.specs.declared.Added.{Added}

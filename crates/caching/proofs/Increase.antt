@@ -35,7 +35,7 @@ use Rattle.statistics.proofs.Statistics as T
 use Rattle.statistics.proofs.Statistics.Laws as T′
 use Rattle.statistics.proofs.increase as increase
 use Rattle.statistics.proofs.increase.Symbol.{name as #increase}
-use Rattle.single_calls.specs.Answers.{countsOf}
+use Rattle.statistics.specs.OfBook.{countsOf}
 
 abbrev pub vals : Statistics → List Val
 vals = LL.vals T.the-type T′.the-laws

@@ -50,7 +50,7 @@ use Rattle.statistics.proofs.Statistics as T
 use Rattle.statistics.proofs.Statistics.Laws as T′
 use Rattle.statistics.proofs.increase.Symbol.{name as #increase}
 use Rattle.single_calls.specs.Single.{Return}
-use Rattle.single_calls.specs.Answers.{countsOf}
+use Rattle.statistics.specs.OfBook.{countsOf}
 use Rattle.caching.specs.declared.Added.{Added}
 use Rattle.caching.specs.Added.{AddedLeft}
 use Rattle.caching.proofs.Increase.{shown, besides, for-nothing, Increase, counted, increases}

@@ -5,7 +5,8 @@ use Rattle.buffer.specs.Same.{Bytes}
 use Rattle.statistics.specs.declared.Statistics.{Statistics}
 use Rattle.statistics.specs.Counts.{more}
 use Rattle.single_calls.specs.Single.{Return}
-use Rattle.single_calls.specs.Answers.{countsOf, answerNumber}
+use Rattle.statistics.specs.OfBook.{countsOf}
+use Rattle.single_calls.specs.Answers.{answerNumber}
 use Rattle.single_calls.specs.declared.Invalidated.{Invalidated}
 use Rattle.caching.specs.declared.Added.{Added}
 use Rattle.caching.specs.declared.LookupAdded.{LookupAdded}

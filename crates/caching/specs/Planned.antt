@@ -6,7 +6,7 @@ use Rattle.book.specs.Book.{Counts}
 use Rattle.statistics.specs.declared.Statistics.{Statistics}
 use Rattle.statistics.specs.Counts.{more}
 use Rattle.call_entry.specs.Entered.{holding}
-use Rattle.single_calls.specs.Answers.{countsOf}
+use Rattle.statistics.specs.OfBook.{countsOf}
 use Rattle.cache_manager.specs.Pipeline.{Returned, refusedAs, wrongAt, wrote, causeOf, Left, planCall}
 use Rattle.caching.specs.declared.plan_call.RedisCachePlan.{RedisCachePlan}
 use Rattle.caching.specs.declared.plan_call.PlanAdded.{PlanAdded}

@@ -1,12 +1,11 @@
 -- What stands before the answers, written and measured; and a buffer that is zeroed. Assumes nothing.
 use mathlib.Core.Path.{_≡_, refl, sym, ap, _∙_}
 use mathlib.Core.Bool.{Bool, true, false}
-use mathlib.Core.List.{[], append-nil}
 use Prim.Native.Nat.{ℕ, _+_, _-_, _≤_}
 use native.Mathlib.Omega.{arith}
 use lib.ListN.{length, replicate, length-append, length-replicate}
 use Rattle.buffer.specs.Same.{Bytes}
-use Rattle.buffer.specs.Part.{put, put-put, put-at}
+use Rattle.buffer.specs.Part.{put, put-put, put-all}
 use Rattle.buffer.specs.Zero.{zeroed}
 use Rattle.decimal.specs.Digits.{digits}
 use Rattle.cmd.specs.Pack.{head}
@@ -65,10 +64,6 @@ head-wrapped true n at r s t u z h a f e g =
 head-wrapped false n at r s t u z h a f e g = absurd (let y : _≡_ {A = ℕ} 0 1 = cc in omega arith)
 
 -- ---- zeroed
-
--- what is put over a whole list takes its place
-put-all : (s bs : Bytes) → length s ≡ length bs → put s 0 bs ≡ bs
-put-all s bs e = ap (λ (z : Bytes). put z 0 bs) (sym (append-nil s)) ∙ put-at [] s [] bs 0 refl e ∙ append-nil bs
 
 -- all of a buffer
 pub all-zeroed : (s t : Bytes) → t ≡ zeroed s 0 (length s) → t ≡ replicate (length s) 0

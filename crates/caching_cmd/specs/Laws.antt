@@ -15,10 +15,10 @@ use Rattle.config.specs.Limits.{maxBytes}
 use Rattle.config.specs.declared.CacheMode.{CacheMode}
 use Rattle.config.specs.declared.Settings.{Settings}
 use Rattle.format.specs.Runs.{encAll}
-use Rattle.resp3.specs.Value.{Value, Values, null, none, more, encode, Means}
+use Rattle.resp3.specs.Value.{Value, Values, none, more, encode, Means, nullBytes}
 use Rattle.resp3.specs.Ends.{isValue}
 use Rattle.resp3.specs.Decode as resp
-use Rattle.resp3.specs.Law as valueLaws
+use Rattle.resp3.specs.Law.{value-law, value-means}
 use Rattle.resp3_element.specs.declared.Cursor.{Cursor}
 use Rattle.resp3_element.specs.declared.Elements.{Elements}
 use Rattle.resp3_element.specs.declared.Elements.the-variants.{Of, No as NoElements}
@@ -32,7 +32,7 @@ use Rattle.sharded_lru.specs.Lent.{setupNow, Lent}
 use Rattle.sharded_lru.specs.Admit.{admitted, admits}
 use Rattle.call_entry.specs.Entered.{onRows, entered}
 use Rattle.call_entry.specs.Laws.{not-entered}
-use Rattle.planning.specs.Plan.{encNode, encPlan}
+use Rattle.planning.specs.Plan.{encNode, encPlan, planHeadSize, nullStart}
 use Rattle.planning.specs.Rules.{GoodPlan}
 use Rattle.plan.specs.Decode.{readPlan, isPlan, decodePlan}
 use Rattle.plan.specs.Law.{read-start, read-back, plan-law}
@@ -56,9 +56,9 @@ use Rattle.caching_cmd.specs.Settle.{Many}
 -- what is read off a plan's bytes
 pub record PlanRead (s : Bytes) : Type 0 where
   pub good : GoodPlan (readPlan s)
-  pub nodes : drop 8 s ≡ encAll encNode (readPlan s .nodes)
-  pub long : 8 ≤ length s
-  pub blank : part s 1 3 ≡ encode null
+  pub nodes : drop planHeadSize s ≡ encAll encNode (readPlan s .nodes)
+  pub long : planHeadSize ≤ length s
+  pub blank : part s nullStart 3 ≡ nullBytes
 
 pub plan-read : (s : Bytes) → isPlan s ≡ true → PlanRead s
 unfolding encPlan encode
@@ -69,12 +69,12 @@ plan-read s e =
     let f : ℕ = cond (p .transaction) 1 0 in
     let r : Bytes = encAll encNode (p .nodes) in
     let b = read-start f (p .commands) r (w .good .count) in
-    let l : length s ≡ 8 + length r = ap length (w .is) ∙ simp (length-append, length-le 4 (p .commands)) (omega arith) in
+    let l : length s ≡ planHeadSize + length r = ap length (w .is) ∙ simp (length-append, length-le 4 (p .commands)) (omega arith) in
     record {
       good = subst GoodPlan (sym q) (w .good);
-      nodes = ap (drop 8) (w .is) ∙ b .behind ∙ ap (λ k. encAll encNode (k .nodes)) (sym q);
+      nodes = ap (drop planHeadSize) (w .is) ∙ b .behind ∙ ap (λ k. encAll encNode (k .nodes)) (sym q);
       long = omega arith;
-      blank = ap (λ (t : Bytes). part t 1 3) (w .is) ∙ part-at (f ∷ []) (encode null) (le32 (p .commands) ++ r) 1 3 refl refl;
+      blank = ap (λ (t : Bytes). part t nullStart 3) (w .is) ∙ part-at (f ∷ []) nullBytes (le32 (p .commands) ++ r) 1 3 refl refl;
     }
 
 -- the passes start at a plan's first node and a list's first reply
@@ -106,12 +106,9 @@ ArrayIs x r = (v : Value) → Means x v → Holds x r (arrayOf v)
 pub array-as : (x : Bytes) (r q : Elements) → r ≡ q → ArrayIs x r → ArrayIs x q
 array-as x r q e f = subst (ArrayIs x) e f
 
--- bytes that are a value
-pub value-means : (s : Bytes) → isValue s ≡ true → Means s (resp.decode s)
-value-means s e = let w = valueLaws.value-law s .0 e in rw (valueLaws.decode-law s (w .v) (w .means)) (w .means)
-
+-- bytes that are a value are within its limit
 pub value-small : (s : Bytes) → isValue s ≡ true → length s ≤ maxBytes
-value-small s e = valueLaws.value-law s .0 e .small
+value-small s e = value-law s .0 e .small
 
 -- the first element of an array lies in it
 pub first-inside : (s : Bytes) (first : Cursor) → isValue s ≡ true → ArrayIs s (Of first) → Inside s first

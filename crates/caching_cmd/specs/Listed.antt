@@ -21,16 +21,17 @@ use Rattle.resolving.specs.Resolve.{Resolved, cause7, resolve}
 use Rattle.resolving_walk.specs.Walk.{walk}
 use Rattle.resolving_walk.specs.Same.{walkedOf, plan-walk, no-list, resultHead}
 use Rattle.resolving_step.specs.declared.Walk.{Walk}
-use Rattle.resolving_passes.specs.declared.Room.{Room}
+use Rattle.room.specs.Room.{spent, whole}
+use Rattle.room.specs.declared.Room.{Room}
 use Rattle.resolving_passes.specs.declared.Dry.{Dry}
 use Rattle.resolving_passes.specs.declared.Dry.the-variants.{Fits, Short, Wrong}
-use Rattle.resolving_passes.specs.Passes.{spent, dryOf, Starts, Begins, DryIs, Fine}
+use Rattle.resolving_passes.specs.Passes.{dryOf, Starts, Begins, DryIs, Fine}
 use Rattle.resolving_store.specs.Stores.{StorePass}
 use Rattle.caching_cmd.specs.declared.ResolveAnswer.{ResolveAnswer}
 use Rattle.caching_cmd.specs.declared.ResolveAnswer.the-variants.{Refused}
 use Rattle.caching_cmd.specs.declared.Found.the-variants.{No}
 use Rattle.caching_cmd.specs.Parts.{FoundIs, startAt, Listed, StoredIf, StoredFor, ShapeRefused, AllWritten, Judged}
-use Rattle.caching_cmd.specs.Settle.{wholeRoom, dryFor, dry-says, fine-dry, fine-head, settle-wrong, settle-short, settle-fits}
+use Rattle.caching_cmd.specs.Settle.{dryFor, dry-says, fine-dry, fine-head, settle-wrong, settle-short, settle-fits}
 use Rattle.caching_cmd.specs.Laws.{PlanRead, plan-read, starts, many-answers, goes-not}
 
 -- the passes begin
@@ -44,11 +45,11 @@ begins plan list first c e ok l =
     }
 
 -- what is left of the buffer behind the head
-pub room-left : (n h k : ℕ) (room : Room) → room ≡ spent (wholeRoom n) h → h ≡ k → room ≡ spent (wholeRoom n) k
-room-left n h k room e q = e ∙ ap (spent (wholeRoom n)) q
+pub room-left : (n h k : ℕ) (room : Room) → room ≡ spent (whole n) h → h ≡ k → room ≡ spent (whole n) k
+room-left n h k room e q = e ∙ ap (spent (whole n)) q
 
 -- where all fits, the answer pass has room
-pub fine-all : (plan list : Bytes) (c : Walk) (mode : CacheMode) (clock n h : ℕ) (room : Room) (d : Dry) → room ≡ spent (wholeRoom n) h
+pub fine-all : (plan list : Bytes) (c : Walk) (mode : CacheMode) (clock n h : ℕ) (room : Room) (d : Dry) → room ≡ spent (whole n) h
     → DryIs plan list c mode clock room d → d ≡ Fits
     → Fine plan list c mode clock h n
 fine-all plan list c mode clock n h room d e f q ns es rs t =
@@ -96,12 +97,12 @@ module _ (g : Settings) (epoch : ℕ) (plan list : Bytes) (first : Cursor) (c : 
   same = plan-walk (readPlan plan) (read .good) (g .mode) clock v rs e
 
   module _ (transaction : Bool) (k : ℕ) (room : Room) (d : Dry) (a : transaction ≡ readPlan plan .transaction) (b : k ≡ readPlan plan .commands)
-      (q : room ≡ spent (wholeRoom (length buffer)) (length (resultHead transaction k))) (f : DryIs plan list c (g .mode) clock room d) where
+      (q : room ≡ spent (whole (length buffer)) (length (resultHead transaction k))) (f : DryIs plan list c (g .mode) clock room d) where
     -- what the dry pass found of it
     dry-is : d ≡ dryFor (readPlan plan .transaction) result (length buffer)
     dry-is =
         f (readPlan plan .nodes) none rs here
-        ∙ ap₂ dryOf (q ∙ ap₂ (λ (t : Bool) (i : ℕ). spent (wholeRoom (length buffer)) (length (resultHead t i))) a b) same
+        ∙ ap₂ dryOf (q ∙ ap₂ (λ (t : Bool) (i : ℕ). spent (whole (length buffer)) (length (resultHead t i))) a b) same
         ∙ dry-says (readPlan plan .transaction) result (length buffer) (readPlan plan .commands) (many-answers plan read (g .mode) clock v)
 
     module _ (old new : Bytes) (n : ℕ) (h : StoredFor g epoch plan list c clock d old new n) where

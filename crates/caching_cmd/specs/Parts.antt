@@ -19,7 +19,7 @@ use Rattle.book.specs.Book.{Row, Book}
 use Rattle.book.specs.Calls.{afterCall}
 use Rattle.arena.specs.Sequence.{Held}
 use Rattle.sharded_lru.specs.Lent.{setupNow, Lent}
-use Rattle.planning.specs.Plan.{Node}
+use Rattle.planning.specs.Plan.{Node, planHeadSize}
 use Rattle.plan.specs.Decode.{readPlan, decodePlan}
 use Rattle.resolving_walk.specs.Commands.{planRead}
 use Rattle.resolving.specs.Convert.{repliesOf}
@@ -51,7 +51,7 @@ Finds s transaction r = (v : Value) → Means s v → FoundIs s r (repliesOf tra
 
 -- the walk behind the plan's head
 abbrev pub startAt : Cursor → Walk
-startAt first = record { at = 8; reply = first; from = 0; to = 0; element = record { at = 0; end = 0; left = 0 } }
+startAt first = record { at = planHeadSize; reply = first; from = 0; to = 0; element = record { at = 0; end = 0; left = 0 } }
 
 -- a list of replies that is not too long
 pub record Listed (s : Bytes) (first : Cursor) : Type 0 where

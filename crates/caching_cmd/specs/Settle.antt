@@ -19,10 +19,10 @@ use Rattle.resolving.specs.Resolve.{Resolved, cause7, answered}
 use Rattle.resolving.specs.Result.{resultBytes}
 use Rattle.resolving_walk.specs.Walk.{Walked, stopped, through}
 use Rattle.resolving_walk.specs.Same.{walkedOf, resultHead, result-pieces}
-use Rattle.resolving_passes.specs.declared.Room.{Room}
+use Rattle.room.specs.Room.{spent, whole}
 use Rattle.resolving_passes.specs.declared.Dry.{Dry}
 use Rattle.resolving_passes.specs.declared.Dry.the-variants.{Fits, Short, Wrong}
-use Rattle.resolving_passes.specs.Passes.{spent, dryIf, dryOf, FineWalk, answerBytes}
+use Rattle.resolving_passes.specs.Passes.{dryIf, dryOf, FineWalk, answerBytes}
 use Rattle.resolving_passes.specs.Laws.{room-same, tally-spent}
 use Rattle.resolving_store.specs.Stores.{Stores, walkedStores}
 use Rattle.resolving_store.specs.Laws.{stores-none}
@@ -33,15 +33,11 @@ use Rattle.caching_cmd.specs.Parts.{Judged}
 
 -- ---- the room
 
--- all of a buffer of n bytes
-abbrev pub wholeRoom : ℕ → Room
-wholeRoom n = record { left = n; short = false }
-
 -- after a head of h bytes there is room for x more exactly if both have room
-room-says : (n h x : ℕ) → cond (spent (wholeRoom n) h .short) false (leb x (spent (wholeRoom n) h .left)) ≡ leb (h + x) n
+room-says : (n h x : ℕ) → cond (spent (whole n) h .short) false (leb x (spent (whole n) h .left)) ≡ leb (h + x) n
 room-says n h x =
     let e : 0 + h + x ≡ h + x = omega arith in
-    tally-spent (wholeRoom n) (wholeRoom n) 0 h (room-same (wholeRoom n)) x ∙ ap (λ (i : ℕ). leb i n) e
+    tally-spent (whole n) (whole n) 0 h (room-same (whole n)) x ∙ ap (λ (i : ℕ). leb i n) e
 
 -- what the dry pass finds of what becomes of a plan
 unfoldable pub dryFor : Bool → Resolved → ℕ → Dry
@@ -61,14 +57,14 @@ Many (cause7 ss) k = Unit {0}
 Many (answered vs ss) k = count vs ≡ k
 
 pub dry-says : (transaction : Bool) (v : Resolved) (n k : ℕ) → Many v k
-    → dryOf (spent (wholeRoom n) (length (resultHead transaction k))) (walkedOf v) ≡ dryFor transaction v n
+    → dryOf (spent (whole n) (length (resultHead transaction k))) (walkedOf v) ≡ dryFor transaction v n
 unfolding dryOf dryFor
 dry-says transaction (cause7 ss) n k m = refl
 dry-says transaction (answered vs ss) n k m =
     ap dryIf (room-says n (length (resultHead transaction k)) (length (encs vs [])) ∙ ap (λ (i : ℕ). leb i n) (result-length transaction vs k m))
 
 -- where the dry pass found room, the walk goes through and its bytes have room behind the head
-pub fine-dry : (n h : ℕ) (w : Walked) → Fits ≡ dryOf (spent (wholeRoom n) h) w → FineWalk h n w
+pub fine-dry : (n h : ℕ) (w : Walked) → Fits ≡ dryOf (spent (whole n) h) w → FineWalk h n w
 unfolding dryOf
 fine-dry n h (stopped ss) d = absurd (let z : _≡_ {A = ℕ} 0 1 = cc in omega arith)
 fine-dry n h (through bs ss) d = go (leb (h + length bs) n) refl (d ∙ ap dryIf (room-says n h (length bs)))

@@ -2,10 +2,10 @@
 // stored. Nothing is asked of the caller: what is wrong is refused by a cause's number. specs/Call.antt says what comes out, for all input.
 use config::Settings;
 use resolving_passes::Dry;
-use resolving_passes::Room;
 use resolving_step::Walk;
 use resp3_element::Cursor;
 use resp3_element::Elements;
+use room::Room;
 use sharded_lru::Admitted;
 ghost use mathlib.Core.Path.{_≡_};
 ghost use mathlib.Core.Bool.{true};
@@ -14,6 +14,7 @@ ghost use lib.ListN.{length};
 ghost use Rattle.buffer.specs.Part.{put};
 ghost use Rattle.resp3.specs.Ends.{isValue};
 ghost use Rattle.book.specs.Book.{Counts};
+ghost use Rattle.planning.specs.Plan.{planHeadSize};
 ghost use Rattle.sharded_lru.specs.Lent.{Arena};
 ghost use Rattle.plan.specs.Decode.{readPlan, isPlan};
 ghost use Rattle.resolving_walk.specs.Same.{resultHead};
@@ -61,7 +62,7 @@ fn find_list(replies: &[u8], transaction: bool) -> Found
 
 // Whether a plan is a transaction's.
 pub fn is_transaction(plan: &[u8]) -> bool
-    requires { ⌜ 8 ≤ length (now plan) ⌝ }
+    requires { ⌜ planHeadSize ≤ length (now plan) ⌝ }
     ensures { λ r. ⌜ r ≡ readPlan (now (plan .entry)) .transaction ⌝ }
 {
     plan[0] == 1
@@ -69,7 +70,7 @@ pub fn is_transaction(plan: &[u8]) -> bool
 
 // How many commands a plan has.
 pub fn command_count(plan: &[u8]) -> u64
-    requires { ⌜ 8 ≤ length (now plan) ⌝ }
+    requires { ⌜ planHeadSize ≤ length (now plan) ⌝ }
     ensures { λ r. ⌜ r ≡ readPlan (now (plan .entry)) .commands ⌝ }
 {
     buffer::read_u32(plan, 4) as u64
@@ -85,7 +86,7 @@ pub fn start_at(first: Cursor) -> Walk
         left: 0,
     };
     Walk {
-        at: 8,
+        at: planning::PLAN_HEAD,
         reply: first,
         from: 0,
         to: 0,
@@ -209,7 +210,7 @@ fn resolve_list<'a>(
         left: answer.len(),
         short: false,
     };
-    let room = resolving_passes::spend(whole, head_len(transaction, n));
+    let room = room::spend(whole, head_len(transaction, n));
     let found = resolving_passes::dry_pass(plan, list, start, mode, clock, room);
     let refused = store_found(arena, g, plan, list, start, clock, epoch, found);
     match found {

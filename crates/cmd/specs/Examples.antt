@@ -14,7 +14,7 @@ use Rattle.call_record.specs.Check.{checkOf, checkDef}
 use Rattle.call_record.specs.declared.Checked.the-variants.{Fine, Wrong}
 use Rattle.cursor.specs.At.{argsAt, argsEnd, commandsAt, recordAt}
 use Rattle.cursor.specs.Index.{argIdx, text, none}
-use Rattle.command_key.specs.Key.{joined}
+use Rattle.command_key.specs.Key.{commandKey}
 use Rattle.decimal.specs.Digits.{digits}
 use Rattle.buffer.specs.Ascii.{ascii}
 use Rattle.cmd.specs.Pack.{texts, blobBytes, blob, packed, packed-pieces}
@@ -104,9 +104,9 @@ pub idx-cursor-key : argIdx (simple (ascii "GET") ∷ cursor ∷ []) 1 ≡ none
 idx-cursor-key = refl
 
 -- equal joined bytes, across names
-pub shared : joined (simple (ascii "GET") ∷ simple (ascii "RANGE") ∷ simple (ascii "RANGE") ∷ [])
-    ≡ joined (simple (ascii "GETRANGE") ∷ simple (ascii "RANGE") ∷ [])
-unfolding joined
+pub shared : commandKey (simple (ascii "GET") ∷ simple (ascii "RANGE") ∷ simple (ascii "RANGE") ∷ [])
+    ≡ commandKey (simple (ascii "GETRANGE") ∷ simple (ascii "RANGE") ∷ [])
+unfolding commandKey
 shared = refl
 
 -- ---- packing

@@ -15,13 +15,13 @@ use Rattle.cursor.specs.At.{sizeAt, nextAt, argsAt, ArgIn, ArgsIn}
 use Rattle.cursor.specs.Steps.{in-more, args-none, args-more}
 use Rattle.cursor.specs.Index.{own-is}
 use Rattle.buffer.specs.Copied.{Copied, copied-room}
-use Rattle.command_key.specs.Key.{joined}
+use Rattle.command_key.specs.Key.{commandKey}
 
 -- ---- one more argument
 
 -- the joined bytes of the m arguments from `at` on
 abbrev pub joinedAt : Bytes → ℕ → ℕ → Bytes
-joinedAt s m at = joined (argsAt s m at)
+joinedAt s m at = commandKey (argsAt s m at)
 
 -- the bytes of one argument's own, as they are cut out
 abbrev pub cutAt : Bytes → ℕ → ℕ → Bytes
@@ -29,14 +29,14 @@ cutAt s at n = take (at + 5 + n - (at + 5)) (drop (at + 5) s)
 
 -- no argument is left
 pub joined-none : (s : Bytes) (m at : ℕ) → m ≡ 0 → joinedAt s m at ≡ []
-unfolding joined
+unfolding commandKey
 joined-none s m at q = rw (args-none s m at q)
 
 -- the first, and the others
 pub joined-more : (s : Bytes) (m n at : ℕ) → m ≡ n + 1 → ArgsIn s m at → joinedAt s m at ≡ part s (at + 5) (sizeAt s at) ++ joinedAt s n (nextAt s at)
-unfolding joined
+unfolding commandKey
 joined-more s m n at q w =
-    ap joined (args-more s m n at q) ∙ ap (λ (x : Bytes). x ++ joinedAt s n (nextAt s at)) (own-is s at (in-more s m n at q w .0))
+    ap commandKey (args-more s m n at q) ∙ ap (λ (x : Bytes). x ++ joinedAt s n (nextAt s at)) (own-is s at (in-more s m n at q w .0))
 
 -- how long they are
 pub joined-length : (s : Bytes) (m n at : ℕ) → m ≡ n + 1 → ArgsIn s m at → length (joinedAt s m at) ≡ sizeAt s at + length (joinedAt s n (nextAt s at))

@@ -1,5 +1,5 @@
 -- By the cases of a command key: what lies inside, and which bytes it stands for. Assumes nothing.
-use mathlib.Core.Path.{_≡_, refl, ap, _∙_}
+use mathlib.Core.Path.{_≡_, refl, sym, ap, _∙_}
 use mathlib.Core.Bool.{Bool}
 use mathlib.Core.List.{_++_}
 use Prim.Native.Nat.{_-_, _≤_}
@@ -11,7 +11,7 @@ use Rattle.config.specs.Limits.{maxBytes}
 use Rattle.cursor.specs.At.{rangeBytes, RangeIn, argsOf, ArgsHere}
 use Rattle.cursor.specs.declared.Args.{Args}
 use Rattle.cursor.specs.declared.Range.{Range}
-use Rattle.command_key.specs.Key.{joined, nameBytes, keyBytes, KeyIn}
+use Rattle.command_key.specs.Key.{commandKey, nameBytes, keyBytes, KeyIn, named-joined}
 use Rattle.command_key.specs.declared.CommandKey.{CommandKey}
 use Rattle.command_key.specs.declared.CommandKey.the-variants.{Part, Joined, Named}
 
@@ -50,7 +50,7 @@ module _ (s : Bytes) (key : CommandKey) (w : KeyIn s key) where
   joined-in k e = rw e at w
 
   -- they are joined
-  pub joined-bytes : (k : Args) → key ≡ Joined k → joined (argsOf s k) ≡ keyBytes s key
+  pub joined-bytes : (k : Args) → key ≡ Joined k → commandKey (argsOf s k) ≡ keyBytes s key
   unfolding keyBytes
   joined-bytes k e = rw e
 
@@ -62,4 +62,4 @@ module _ (s : Bytes) (key : CommandKey) (w : KeyIn s key) where
   -- name, key and path
   pub named-bytes : (json : Bool) (g p : Range) → key ≡ Named json g p → nameBytes json ++ (rangeBytes s g ++ rangeBytes s p) ≡ keyBytes s key
   unfolding keyBytes
-  named-bytes json g p e = rw e
+  named-bytes json g p e = sym (named-joined (nameBytes json) (rangeBytes s g) (rangeBytes s p)) ∙ rw e

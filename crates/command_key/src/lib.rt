@@ -10,7 +10,7 @@ ghost use Rattle.buffer.specs.Same.{same};
 ghost use Rattle.buffer.specs.Part.{part, put};
 ghost use Rattle.cursor.specs.At.{rangeBytes, RangeIn, argsOf, ArgsHere};
 ghost use Rattle.config.specs.Limits.{maxBytes};
-ghost use Rattle.command_key.specs.Key.{joined, nameBytes, keyBytes, KeyIn};
+ghost use Rattle.command_key.specs.Key.{commandKey, nameBytes, keyBytes, KeyIn};
 
 pub enum CommandKey {
     // A range of the source.
@@ -24,7 +24,7 @@ pub enum CommandKey {
 // How long the arguments are when joined.
 fn joined_len(s: &[u8], k: Args) -> usize
     requires { ⌜ ArgsHere (now s) k ⌝ }
-    ensures { λ r. ⌜ r ≡ length (joined (argsOf (now (s .entry)) k)) ⌝ }
+    ensures { λ r. ⌜ r ≡ length (commandKey (argsOf (now (s .entry)) k)) ⌝ }
 {
     let mut at = k.at;
     let mut left = k.left;
@@ -40,8 +40,8 @@ fn joined_len(s: &[u8], k: Args) -> usize
 
 // The arguments joined, copied to dst at `to`.
 fn joined_copy(s: &[u8], k: Args, dst: &mut [u8], to: usize)
-    requires { ⌜ ArgsHere (now s) k × (to + length (joined (argsOf (now s) k)) ≤ length (now dst)) ⌝ }
-    ensures { λ _. ⌜ now (dst .exit) ≡ put (now (dst .entry)) to (joined (argsOf (now (s .entry)) k)) ⌝ }
+    requires { ⌜ ArgsHere (now s) k × (to + length (commandKey (argsOf (now s) k)) ≤ length (now dst)) ⌝ }
+    ensures { λ _. ⌜ now (dst .exit) ≡ put (now (dst .entry)) to (commandKey (argsOf (now (s .entry)) k)) ⌝ }
 {
     let mut at = k.at;
     let mut left = k.left;
@@ -60,7 +60,7 @@ fn joined_copy(s: &[u8], k: Args, dst: &mut [u8], to: usize)
 // Whether t is the arguments joined.
 fn joined_same(s: &[u8], k: Args, t: &[u8]) -> bool
     requires { ⌜ ArgsHere (now s) k ⌝ }
-    ensures { λ r. ⌜ r ≡ same (now (t .entry)) (joined (argsOf (now (s .entry)) k)) ⌝ }
+    ensures { λ r. ⌜ r ≡ same (now (t .entry)) (commandKey (argsOf (now (s .entry)) k)) ⌝ }
 {
     let mut at = k.at;
     let mut left = k.left;

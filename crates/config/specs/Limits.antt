@@ -28,9 +28,13 @@ maxArgument = 65535
 abbrev pub maxKey : ℕ
 maxKey = 65535
 
--- 16 MiB: a call record; a command key or a value of a single call; replies, a push, a stored value
+-- 16 MiB: a call record; a value of a single call; replies, a push, a stored value
 abbrev pub maxBytes : ℕ
 maxBytes = 16777216
+
+-- bytes of a command key given to a single call, or kept in arena or plan
+abbrev pub maxCommandKey : ℕ
+maxCommandKey = 16777216
 
 -- how deep a RESP3 value nests, the outermost counting 1
 abbrev pub maxDepth : ℕ

@@ -21,8 +21,10 @@ pub const MAX_ARGUMENTS: usize = 1024;
 pub const MAX_ARGUMENT: usize = 65535;
 // Bytes of a key.
 pub const MAX_KEY: usize = 65535;
-// Bytes of a call record, a command key, a value, a reply or a push: 16 MiB.
+// Bytes of a call record, a value, a reply or a push: 16 MiB.
 pub const MAX_BYTES: usize = 16777216;
+// Bytes of a command key.
+pub const MAX_COMMAND_KEY: usize = 16777216;
 // Levels of a RESP3 value.
 pub const MAX_DEPTH: usize = 16;
 

@@ -13,7 +13,7 @@ use borrow.Author.Tests.{ltb-true, ltb-false, le-ltb, leb-true}
 use Rattle.buffer.specs.Cases.{byTest}
 use Rattle.buffer.specs.Same.{Bytes}
 use Rattle.buffer.specs.Field.{Octets}
-use Rattle.config.specs.Limits.{maxKey, maxBytes}
+use Rattle.config.specs.Limits.{maxKey, maxCommandKey, maxBytes}
 use Rattle.config.specs.Causes.{badConfig, badArena}
 use Rattle.config.specs.Config.{refused, settingsOf}
 use Rattle.format.specs.Runs.{All}
@@ -25,7 +25,6 @@ use Rattle.book.specs.Calls.{Call, single, replyTo, afterCalls}
 use Rattle.book.specs.Each.{Each}
 use Rattle.book.specs.Counts.{Counted}
 use Rattle.book.specs.Storable.{StorableEntries}
-use Rattle.arena.specs.All as arena
 use Rattle.arena.specs.Decode.{mayStore, decode}
 use Rattle.arena.specs.Tests.{Fits, every-yes}
 use Rattle.arena.specs.Layout.{encode}
@@ -118,14 +117,14 @@ module _ (size n : ℕ) (pass : refused size 0 n ≡ false) where
       rw (
         is-fine size n 0 0 pass,
         le-ltb maxKey (length k) (leb-true (length k) maxKey (w .0)),
-        le-ltb maxBytes (length c) (leb-true (length c) maxBytes (w .1 .0)),
+        le-ltb maxCommandKey (length c) (leb-true (length c) maxCommandKey (w .1 .0)),
         le-ltb maxBytes (length v) (value-law v .0 (w .1 .1 .0) .small),
         w .1 .1 .0,
       )
 
   -- the store of an entry
   entries-told : (it : Item) (ens : List Entry) → Fits isValue (setupWith size n) it → StorableEntries (mayStore isValue) (it .key) ens
-      → arena.All (λ en. EventOctets (on (storing it en))) ens → arena.All (λ en. Told (storing it en)) ens
+      → All (λ en. EventOctets (on (storing it en))) ens → All (λ en. Told (storing it en)) ens
   unfolding asReal
   entries-told it [] f w o = tt
   entries-told it (en ∷ ens) f w o = (
@@ -139,18 +138,18 @@ module _ (size n : ℕ) (pass : refused size 0 n ≡ false) where
       zero-word : 0 < 2 ^ 64
       zero-word = omega arith
 
-  items-told : (row : Row) → Each (Fits isValue (setupWith size n)) row → Each (λ it. arena.All (λ en. EventOctets (on (storing it en))) (it .entries)) row
-      → Each (λ it. arena.All (λ en. Told (storing it en)) (it .entries)) row
+  items-told : (row : Row) → Each (Fits isValue (setupWith size n)) row → Each (λ it. All (λ en. EventOctets (on (storing it en))) (it .entries)) row
+      → Each (λ it. All (λ en. Told (storing it en)) (it .entries)) row
   items-told [] f o = tt
   items-told (it ∷ row) f o = (entries-told it (it .entries) (f .0) (f .0 .entries) (o .0), items-told row (f .1) (o .1))
 
   -- of some such calls
-  all-told : (qs : List Keyed) → arena.All Told qs → bookCalls size n (map asReal qs) ≡ singles qs
+  all-told : (qs : List Keyed) → All Told qs → bookCalls size n (map asReal qs) ≡ singles qs
   unfolding bookCalls
   all-told [] w = refl
   all-told (q ∷ qs) w = ap₂ (λ (c : Call) (cs : List Call). c ∷ cs) (w .0 .told) (all-told qs (w .1))
 
-  all-given : (qs : List Keyed) → arena.All Told qs → All Given (map asReal qs)
+  all-given : (qs : List Keyed) → All Told qs → All Given (map asReal qs)
   all-given [] w = tt
   all-given (q ∷ qs) w = (w .0 .given, all-given qs (w .1))
 
@@ -169,17 +168,17 @@ module _ (size : ℕ) (s : Bytes) where
     qs = building (p′ .shards) rows
 
     -- the book is told of each store as it is
-    row-told : (i : ℕ) → Each (λ it. arena.All (λ en. Told size (length s) pass (storing it en)) (it .entries)) (rows i)
+    row-told : (i : ℕ) → Each (λ it. All (λ en. Told size (length s) pass (storing it en)) (it .entries)) (rows i)
     row-told i =
         byTest (ltb i (p′ .shards))
         (λ e.
         items-told size (length s) pass (rows i) (im .formed .fine i .fits)
         (arena-octets p′ (length s) rows (subst Octets (sym (im .bytes)) b) i (ltb-true i (p′ .shards) e)))
         (λ e.
-        subst (λ (r : Row). Each (λ it. arena.All (λ en. Told size (length s) pass (storing it en)) (it .entries)) r)
+        subst (λ (r : Row). Each (λ it. All (λ en. Told size (length s) pass (storing it en)) (it .entries)) r)
         (sym (im .formed .beyond i (ltb-false i (p′ .shards) e))) tt)
 
-    stores-told : arena.All (Told size (length s) pass) qs
+    stores-told : All (Told size (length s) pass) qs
     stores-told = building-all (Told size (length s) pass) (p′ .shards) rows row-told
 
     -- they make these rows

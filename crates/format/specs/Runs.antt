@@ -21,6 +21,11 @@ abbrev pub All : {A : Type 0} → (A → Type 0) → List A → Type 0
 All good [] = Unit {0}
 All good (x ∷ xs) = good x × All good xs
 
+-- so is everything in both lists together
+pub all-append : {A : Type 0} (good : A → Type 0) (xs ys : List A) → All good xs → All good ys → All good (xs ++ ys)
+all-append good [] ys v w = w
+all-append good (x ∷ xs) ys v w = (v .0, all-append good xs ys (v .1) w)
+
 -- ---- n of a kind
 
 module _ {A : Type 0} (f : Format A) where

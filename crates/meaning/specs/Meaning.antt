@@ -15,7 +15,7 @@ use mathlib.Core.Option.{none, some}
 use Prim.Native.Nat.{ℕ, _^_, _≤_, _<_}
 use lib.ListN.{length}
 use Rattle.buffer.specs.Same.{Bytes}
-use Rattle.config.specs.Limits.{maxKey, maxBytes}
+use Rattle.config.specs.Limits.{maxKey, maxCommandKey, maxBytes}
 use Rattle.config.specs.Causes.{badConfig, tooLong, badReply, badArena, badPlan}
 use Rattle.config.specs.Config.{refused, settingsOf}
 use Rattle.config.specs.declared.Settings.{Settings}
@@ -67,7 +67,7 @@ use Rattle.caching.specs.Pushed.{pushBy}
 -- what a call may store: a key of at most 65,535 bytes, a command key of at most 16 MiB, exactly one value
 pub record MayStore (k c v : Bytes) : Type 0 where
   pub key : length k ≤ maxKey
-  pub command : length c ≤ maxBytes
+  pub command : length c ≤ maxCommandKey
   pub value : IsValue v
 
 -- an item that calls can make: numbers of 64 bits, and entries that may be stored

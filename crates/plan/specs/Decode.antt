@@ -9,11 +9,12 @@ use lib.Dec.{eqb, leb, ltb}
 use Rattle.buffer.specs.Same.{Bytes, same}
 use Rattle.buffer.specs.Field.{read32, read64}
 use Rattle.buffer.specs.Part.{part}
-use Rattle.config.specs.Limits.{maxCommands, maxArguments, maxKey, maxBytes}
+use Rattle.config.specs.Limits.{maxCommands, maxArguments, maxKey, maxCommandKey}
 use Rattle.resp3.specs.Ends.{isValue}
 use Rattle.arena.specs.Decode.{every}
 use Rattle.book.specs.Calls.{Wanted}
 use Rattle.planning.specs.Plan.{Node, handOn, servedValue, allServed, missingKey, several, waitingPlace, endOfSeveral, Plan, encPlan}
+use Rattle.planning.specs.Plan.{handOnKind, servedKind, allServedKind, missingKind, severalKind, waitingKind, planHeadSize}
 use Rattle.planning.specs.Rules.{ordered}
 
 -- ---- reading
@@ -21,12 +22,12 @@ use Rattle.planning.specs.Rules.{ordered}
 -- the node of a kind, with its parts and its number; an unknown kind gives some node, which is not written so
 unfoldable pub nodeFrom : ℕ → Bytes → Bytes → ℕ → Node
 nodeFrom k a b x =
-    cond (eqb k 0) handOn
-    (cond (eqb k 1) (servedValue a)
-    (cond (eqb k 2) (allServed x)
-    (cond (eqb k 3) (missingKey (record { key = a; command = b }) x)
-    (cond (eqb k 4) (several x)
-    (cond (eqb k 5) (waitingPlace (record { key = a; command = b }) x) endOfSeveral)))))
+    cond (eqb k handOnKind) handOn
+    (cond (eqb k servedKind) (servedValue a)
+    (cond (eqb k allServedKind) (allServed x)
+    (cond (eqb k missingKind) (missingKey (record { key = a; command = b }) x)
+    (cond (eqb k severalKind) (several x)
+    (cond (eqb k waitingKind) (waitingPlace (record { key = a; command = b }) x) endOfSeveral)))))
 
 -- "node: kind u32 | length of a u32 | length of b u32 | number u64 | a | b"
 unfoldable pub readNode : Bytes → Node
@@ -39,12 +40,12 @@ readNodes (suc n) s = let rest = readNodes n (drop (20 + read32 s 4 + read32 s 8
 
 -- "plan: flags u8 | `_` CR LF | count of commands u32 | nodes to the end"
 unfoldable pub readPlan : Bytes → Plan
-readPlan s = record { transaction = eqb (getD s 0 0) 1; commands = read32 s 4; nodes = readNodes (length s) (drop 8 s) }
+readPlan s = record { transaction = eqb (getD s 0 0) 1; commands = read32 s 4; nodes = readNodes (length s) (drop planHeadSize s) }
 
 -- ---- the rules of planning's Rules.antt as tests
 
 unfoldable pub goodWanted : Wanted → ℕ → Bool
-goodWanted w x = every (leb (length (w .key)) maxKey ∷ leb (length (w .command)) maxBytes ∷ ltb x (2 ^ 64) ∷ [])
+goodWanted w x = every (leb (length (w .key)) maxKey ∷ leb (length (w .command)) maxCommandKey ∷ ltb x (2 ^ 64) ∷ [])
 
 unfoldable pub goodNode : Node → Bool
 goodNode handOn = true

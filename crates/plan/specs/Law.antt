@@ -16,10 +16,10 @@ use Rattle.buffer.specs.Field.{le32, read32, read64, length-le, read-past, read
 use Rattle.buffer.specs.Lists.{drop-past}
 use Rattle.config.specs.Limits.{maxCommands}
 use Rattle.format.specs.Runs.{encAll, All}
-use Rattle.resp3.specs.Value.{null, encode}
+use Rattle.resp3.specs.Value.{encode, nullBytes}
 use Rattle.resp3.specs.Law.{value-law}
 use Rattle.arena.specs.Tests.{Trues, every-yes, yes-every}
-use Rattle.planning.specs.Plan.{Node, handOn, servedValue, allServed, missingKey, several, waitingPlace, endOfSeveral, encNode, Plan, encPlan}
+use Rattle.planning.specs.Plan.{Node, handOn, servedValue, allServed, missingKey, several, waitingPlace, endOfSeveral, encNode, Plan, encPlan, planHeadSize}
 use Rattle.planning.specs.Rules.{GoodNode, GoodPlan, IsPlan}
 use Rattle.plan.specs.Head.{headAt}
 use Rattle.plan.specs.Node.{kindOf, firstOf, secondOf, numberOf, node-defs}
@@ -123,18 +123,18 @@ flag-read false = refl
 -- the count, and what stands behind it
 pub record StartRead (c : ℕ) (r t : Bytes) : Type 0 where
   pub count : read32 t 4 ≡ c
-  pub behind : drop 8 t ≡ r
+  pub behind : drop planHeadSize t ≡ r
   pub longer : length r ≤ length t
 
-pub read-start : (f c : ℕ) (r : Bytes) → c ≤ maxCommands → StartRead c r (f ∷ (encode null ++ (le32 c ++ r)))
+pub read-start : (f c : ℕ) (r : Bytes) → c ≤ maxCommands → StartRead c r (f ∷ (nullBytes ++ (le32 c ++ r)))
 unfolding encode
 read-start f c r l =
-    let X : Bytes = f ∷ encode null in
-    let b : drop 8 (X ++ (le32 c ++ r)) ≡ r = drop-past X (le32 c ++ r) 4 4 refl ∙ drop-past (le32 c) r 4 0 (length-le 4 c) in
+    let X : Bytes = f ∷ nullBytes in
+    let b : drop planHeadSize (X ++ (le32 c ++ r)) ≡ r = drop-past X (le32 c ++ r) 4 4 refl ∙ drop-past (le32 c) r 4 0 (length-le 4 c) in
     record {
       count = read-past 4 X (le32 c ++ r) 4 0 refl ∙ read-here 4 c r (omega arith);
       behind = b;
-      longer = omega (arith, length-drop 8 (X ++ (le32 c ++ r)), ap length b);
+      longer = omega (arith, length-drop planHeadSize (X ++ (le32 c ++ r)), ap length b);
     }
 
 -- a good plan that was written is read

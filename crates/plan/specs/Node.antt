@@ -6,18 +6,19 @@ use native.Mathlib.Omega.{arith}
 use lib.ListN.{length}
 use Rattle.buffer.specs.Same.{Bytes}
 use Rattle.planning.specs.Plan.{Node, handOn, servedValue, allServed, missingKey, several, waitingPlace, endOfSeveral, nodeBytes, encNode}
+use Rattle.planning.specs.Plan.{handOnKind, servedKind, allServedKind, missingKind, severalKind, waitingKind, endKind}
 use Rattle.planning.specs.Rules.{GoodNode}
 
 -- ---- kind, parts and number of a node
 
 unfoldable pub kindOf : Node → ℕ
-kindOf handOn = 0
-kindOf (servedValue v) = 1
-kindOf (allServed n) = 2
-kindOf (missingKey w x) = 3
-kindOf (several n) = 4
-kindOf (waitingPlace w x) = 5
-kindOf endOfSeveral = 6
+kindOf handOn = handOnKind
+kindOf (servedValue v) = servedKind
+kindOf (allServed n) = allServedKind
+kindOf (missingKey w x) = missingKind
+kindOf (several n) = severalKind
+kindOf (waitingPlace w x) = waitingKind
+kindOf endOfSeveral = endKind
 
 unfoldable pub firstOf : Node → Bytes
 firstOf handOn = []

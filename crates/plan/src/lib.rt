@@ -18,7 +18,7 @@ pub fn node_at(plan: &[u8], at: usize) -> NodeHead
     ensures { λ r. ⌜ r ≡ headAt (now (plan .entry)) at ⌝ }
 {
     let kind = buffer::read_u32(plan, at);
-    let first = at + 20;
+    let first = at + planning::NODE_HEAD;
     let second = first + buffer::read_u32(plan, at + 4) as usize;
     let end = second + buffer::read_u32(plan, at + 8) as usize;
     let number = buffer::read_u64(plan, at + 12);

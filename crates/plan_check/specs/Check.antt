@@ -8,9 +8,10 @@ use lib.Dec.{eqb, leb, ltb}
 use Rattle.buffer.specs.Same.{Bytes, same}
 use Rattle.buffer.specs.Field.{read32}
 use Rattle.buffer.specs.Part.{part}
-use Rattle.config.specs.Limits.{maxCommands, maxArguments, maxKey, maxBytes}
-use Rattle.resp3.specs.Value.{null, encode}
+use Rattle.config.specs.Limits.{maxCommands, maxArguments, maxKey, maxCommandKey}
+use Rattle.resp3.specs.Value.{nullBytes}
 use Rattle.resp3.specs.Ends.{isValue}
+use Rattle.planning.specs.Plan.{handOnKind, servedKind, allServedKind, missingKind, severalKind, waitingKind, endKind, planHeadSize, nullStart}
 use Rattle.plan.specs.declared.NodeHead.{NodeHead}
 use Rattle.plan.specs.Head.{endAt, headAt}
 use Rattle.plan_check.specs.declared.Walk.{Walk}
@@ -27,32 +28,32 @@ both t u = cond t u false
 unfoldable pub wholeAt : Bytes → ℕ → Bool
 wholeAt s at = both (leb (at + 20) (length s)) (leb (endAt s at) (length s))
 
--- kinds 0 and 6: no parts, and the number 0
+-- a reply handed on, the end of several: no parts, and the number 0
 abbrev pub emptyFine : ℕ → ℕ → ℕ → Bool
 emptyFine a b x = both (eqb a 0) (both (eqb b 0) (eqb x 0))
 
--- kind 1: a value, given by its test
+-- a served value: a value, given by its test
 abbrev pub valueFine : ℕ → ℕ → Bool → Bool
 valueFine b x v = both (eqb b 0) (both (eqb x 0) v)
 
--- kinds 2 and 4: a number of places
+-- all places served, several keys: a number of places
 abbrev pub placesFine : ℕ → ℕ → ℕ → Bool
 placesFine a b x = both (eqb a 0) (both (eqb b 0) (leb x maxArguments))
 
--- kinds 3 and 5: a key and a command key
+-- a missing key, a place that waits: a key and a command key
 abbrev pub keyFine : ℕ → ℕ → Bool
-keyFine a b = both (leb a maxKey) (leb b maxBytes)
+keyFine a b = both (leb a maxKey) (leb b maxCommandKey)
 
 -- by the kind
 unfoldable pub kindFine : ℕ → ℕ → ℕ → ℕ → Bool → Bool
 kindFine k a b x v =
-    cond (eqb k 0) (emptyFine a b x)
-    (cond (eqb k 1) (valueFine b x v)
-    (cond (eqb k 2) (placesFine a b x)
-    (cond (eqb k 3) (keyFine a b)
-    (cond (eqb k 4) (placesFine a b x)
-    (cond (eqb k 5) (keyFine a b)
-    (cond (eqb k 6) (emptyFine a b x) false))))))
+    cond (eqb k handOnKind) (emptyFine a b x)
+    (cond (eqb k servedKind) (valueFine b x v)
+    (cond (eqb k allServedKind) (placesFine a b x)
+    (cond (eqb k missingKind) (keyFine a b)
+    (cond (eqb k severalKind) (placesFine a b x)
+    (cond (eqb k waitingKind) (keyFine a b)
+    (cond (eqb k endKind) (emptyFine a b x) false))))))
 
 -- of a node whose head is h
 unfoldable pub headFine : Bytes → NodeHead → Bool
@@ -68,21 +69,21 @@ walkTo e c p b = To (record { at = e; commands = c; places = p; several = b })
 abbrev pub asCommand : ℕ → ℕ → ℕ → ℕ → Walked
 asCommand c k x e =
     cond (eqb c 0) Refused
-    (cond (eqb k 2) (walkTo e (c - 1) x false)
-    (cond (eqb k 4) (walkTo e (c - 1) x true)
-    (cond (ltb 4 k) Refused (walkTo e (c - 1) 0 false))))
+    (cond (eqb k allServedKind) (walkTo e (c - 1) x false)
+    (cond (eqb k severalKind) (walkTo e (c - 1) x true)
+    (cond (ltb severalKind k) Refused (walkTo e (c - 1) 0 false))))
 
 -- a node where p served values have to follow
 abbrev pub asValue : ℕ → ℕ → ℕ → ℕ → ℕ → Walked
-asValue p c k x e = cond (eqb p 0) (asCommand c k x e) (cond (eqb k 1) (walkTo e c (p - 1) false) Refused)
+asValue p c k x e = cond (eqb p 0) (asCommand c k x e) (cond (eqb k servedKind) (walkTo e c (p - 1) false) Refused)
 
 -- a node as the end of several
 abbrev pub asEnd : ℕ → ℕ → ℕ → Walked
-asEnd c k e = cond (eqb k 6) (walkTo e c 0 false) Refused
+asEnd c k e = cond (eqb k endKind) (walkTo e c 0 false) Refused
 
 -- a node where p places and the end of several have to follow
 abbrev pub asPlace : ℕ → ℕ → ℕ → ℕ → Walked
-asPlace p c k e = cond (eqb p 0) (asEnd c k e) (cond (eqb k 1) (walkTo e c (p - 1) true) (cond (eqb k 5) (walkTo e c (p - 1) true) Refused))
+asPlace p c k e = cond (eqb p 0) (asEnd c k e) (cond (eqb k servedKind) (walkTo e c (p - 1) true) (cond (eqb k waitingKind) (walkTo e c (p - 1) true) Refused))
 
 -- by what the walk is inside of
 abbrev pub followed : Walk → NodeHead → Walked
@@ -101,8 +102,8 @@ finished w = both (eqb (w .commands) 0) (both (eqb (w .places) 0) (not (w .sever
 
 -- flags, `_` and count
 unfoldable pub startFine : Bytes → Bool
-startFine s = both (leb 8 (length s)) (both (leb (getD s 0 0) 1) (both (same (part s 1 3) (encode null)) (leb (read32 s 4) maxCommands)))
+startFine s = both (leb planHeadSize (length s)) (both (leb (getD s 0 0) 1) (both (same (part s nullStart 3) nullBytes) (leb (read32 s 4) maxCommands)))
 
 -- at the first node
 abbrev pub startAt : Bytes → Walk
-startAt s = record { at = 8; commands = read32 s 4; places = 0; several = false }
+startAt s = record { at = planHeadSize; commands = read32 s 4; places = 0; several = false }

@@ -12,7 +12,7 @@ use Rattle.buffer.specs.Cases.{byTest}
 use Rattle.buffer.specs.Same.{Bytes}
 use Rattle.buffer.specs.Field.{Octets}
 use Rattle.format.specs.Runs.{encAll, All}
-use Rattle.planning.specs.Plan.{Node, encNode}
+use Rattle.planning.specs.Plan.{Node, encNode, servedKind, allServedKind, severalKind, waitingKind, endKind}
 use Rattle.planning.specs.Rules.{GoodNode}
 use Rattle.plan.specs.declared.NodeHead.{NodeHead}
 use Rattle.plan.specs.Head.{headAt, endAt}
@@ -50,12 +50,13 @@ unfolding EndsAt
 step-ends w h =
     ends-either (h .end) (w .several) _ _
     (ends-either (h .end) (eqb (w .places) 0) _ _
-    (ends-either (h .end) (eqb (h .kind) 6) _ _ refl tt)
-    (ends-either (h .end) (eqb (h .kind) 1) _ _ refl (ends-either (h .end) (eqb (h .kind) 5) _ _ refl tt)))
+    (ends-either (h .end) (eqb (h .kind) endKind) _ _ refl tt)
+    (ends-either (h .end) (eqb (h .kind) servedKind) _ _ refl (ends-either (h .end) (eqb (h .kind) waitingKind) _ _ refl tt)))
     (ends-either (h .end) (eqb (w .places) 0) _ _
     (ends-either (h .end) (eqb (w .commands) 0) _ _ tt
-    (ends-either (h .end) (eqb (h .kind) 2) _ _ refl (ends-either (h .end) (eqb (h .kind) 4) _ _ refl (ends-either (h .end) (ltb 4 (h .kind)) _ _ tt refl))))
-    (ends-either (h .end) (eqb (h .kind) 1) _ _ refl tt))
+    (ends-either (h .end) (eqb (h .kind) allServedKind) _ _ refl
+    (ends-either (h .end) (eqb (h .kind) severalKind) _ _ refl (ends-either (h .end) (ltb severalKind (h .kind)) _ _ tt refl))))
+    (ends-either (h .end) (eqb (h .kind) servedKind) _ _ refl tt))
 
 module _ (s : Bytes) (w : Walk) where
   -- what follows a good node that stands where the walk does

@@ -10,10 +10,11 @@ use borrow.Author.Tests.{eqb-true, leb-true, le-leb}
 use Rattle.buffer.specs.Same.{Bytes}
 use Rattle.buffer.specs.Field.{le, le32, le64, readLe, read32, read64, Octets, le-read, read-below}
 use Rattle.buffer.specs.Part.{part, length-part, drop-part}
-use Rattle.config.specs.Limits.{maxKey, maxBytes, maxArguments}
+use Rattle.config.specs.Limits.{maxKey, maxCommandKey, maxArguments}
 use Rattle.resp3.specs.Ends.{isValue}
 use Rattle.resp3.specs.Law.{value-law}
 use Rattle.planning.specs.Plan.{Node, handOn, servedValue, allServed, missingKey, several, waitingPlace, endOfSeveral, nodeBytes, encNode}
+use Rattle.planning.specs.Plan.{handOnKind, servedKind, allServedKind, missingKind, severalKind, waitingKind, endKind}
 use Rattle.planning.specs.Rules.{GoodNode}
 use Rattle.plan.specs.Head.{headAt, endAt, HeadIn}
 use Rattle.plan.specs.Node.{kindOf, firstOf, secondOf, numberOf, node-defs}
@@ -68,7 +69,7 @@ module _ (k : ℕ) (A B : Bytes) (x : ℕ) where
       let n = no-parts (t .0) (u .0) in
       record { node = nd; good = g; is = rw (n .0, n .1, eqb-true x 0 (u .1)) (sym e) }
 
-  value-good : k ≡ 1 → valueFine (length B) x (isValue A) ≡ true → GoodParts k A B x
+  value-good : k ≡ servedKind → valueFine (length B) x (isValue A) ≡ true → GoodParts k A B x
   unfolding encNode GoodNode
   value-good e h =
       let t = both-yes _ _ h in
@@ -83,7 +84,7 @@ module _ (k : ℕ) (A B : Bytes) (x : ℕ) where
       let n = no-parts (t .0) (u .0) in
       record { node = nd x; good = g (leb-true _ _ (u .1)); is = rw (n .0, n .1) (sym e) }
 
-  missing-good : k ≡ 3 → x < 2 ^ 64 → keyFine (length A) (length B) ≡ true → GoodParts k A B x
+  missing-good : k ≡ missingKind → x < 2 ^ 64 → keyFine (length A) (length B) ≡ true → GoodParts k A B x
   unfolding encNode GoodNode
   missing-good e l h =
       let t = both-yes _ _ h in
@@ -93,7 +94,7 @@ module _ (k : ℕ) (A B : Bytes) (x : ℕ) where
         is = rw e;
       }
 
-  waiting-good : k ≡ 5 → x < 2 ^ 64 → keyFine (length A) (length B) ≡ true → GoodParts k A B x
+  waiting-good : k ≡ waitingKind → x < 2 ^ 64 → keyFine (length A) (length B) ≡ true → GoodParts k A B x
   unfolding encNode GoodNode
   waiting-good e l h =
       let t = both-yes _ _ h in
@@ -106,7 +107,9 @@ module _ (k : ℕ) (A B : Bytes) (x : ℕ) where
   -- by the kind
   pub fine-good : x < 2 ^ 64 → kindFine k (length A) (length B) x (isValue A) ≡ true → GoodParts k A B x
   unfolding kindFine encNode GoodNode
-  fine-good l h = go (eqb k 0) (eqb k 1) (eqb k 2) (eqb k 3) (eqb k 4) (eqb k 5) (eqb k 6) refl refl refl refl refl refl refl h
+  fine-good l h =
+      go (eqb k handOnKind) (eqb k servedKind) (eqb k allServedKind) (eqb k missingKind) (eqb k severalKind) (eqb k waitingKind) (eqb k endKind)
+      refl refl refl refl refl refl refl h
     where
       E₁ : Bool
       E₁ = emptyFine (length A) (length B) x
@@ -120,15 +123,16 @@ module _ (k : ℕ) (A B : Bytes) (x : ℕ) where
       K₁ : Bool
       K₁ = keyFine (length A) (length B)
 
-      go : (t₀ t₁ t₂ t₃ t₄ t₅ t₆ : Bool) → eqb k 0 ≡ t₀ → eqb k 1 ≡ t₁ → eqb k 2 ≡ t₂ → eqb k 3 ≡ t₃ → eqb k 4 ≡ t₄ → eqb k 5 ≡ t₅ → eqb k 6 ≡ t₆
+      go : (t₀ t₁ t₂ t₃ t₄ t₅ t₆ : Bool) → eqb k handOnKind ≡ t₀ → eqb k servedKind ≡ t₁ → eqb k allServedKind ≡ t₂ → eqb k missingKind ≡ t₃
+          → eqb k severalKind ≡ t₄ → eqb k waitingKind ≡ t₅ → eqb k endKind ≡ t₆
           → cond t₀ E₁ (cond t₁ V₁ (cond t₂ P₁ (cond t₃ K₁ (cond t₄ P₁ (cond t₅ K₁ (cond t₆ E₁ false)))))) ≡ true → GoodParts k A B x
-      go true t₁ t₂ t₃ t₄ t₅ t₆ e₀ e₁ e₂ e₃ e₄ e₅ e₆ g = empty-good handOn tt (rw (eqb-true k 0 e₀)) g
-      go false true t₂ t₃ t₄ t₅ t₆ e₀ e₁ e₂ e₃ e₄ e₅ e₆ g = value-good (eqb-true k 1 e₁) g
-      go false false true t₃ t₄ t₅ t₆ e₀ e₁ e₂ e₃ e₄ e₅ e₆ g = places-good allServed (λ q. q) (rw (eqb-true k 2 e₂)) g
-      go false false false true t₄ t₅ t₆ e₀ e₁ e₂ e₃ e₄ e₅ e₆ g = missing-good (eqb-true k 3 e₃) l g
-      go false false false false true t₅ t₆ e₀ e₁ e₂ e₃ e₄ e₅ e₆ g = places-good several (λ q. q) (rw (eqb-true k 4 e₄)) g
-      go false false false false false true t₆ e₀ e₁ e₂ e₃ e₄ e₅ e₆ g = waiting-good (eqb-true k 5 e₅) l g
-      go false false false false false false true e₀ e₁ e₂ e₃ e₄ e₅ e₆ g = empty-good endOfSeveral tt (rw (eqb-true k 6 e₆)) g
+      go true t₁ t₂ t₃ t₄ t₅ t₆ e₀ e₁ e₂ e₃ e₄ e₅ e₆ g = empty-good handOn tt (rw (eqb-true k handOnKind e₀)) g
+      go false true t₂ t₃ t₄ t₅ t₆ e₀ e₁ e₂ e₃ e₄ e₅ e₆ g = value-good (eqb-true k servedKind e₁) g
+      go false false true t₃ t₄ t₅ t₆ e₀ e₁ e₂ e₃ e₄ e₅ e₆ g = places-good allServed (λ q. q) (rw (eqb-true k allServedKind e₂)) g
+      go false false false true t₄ t₅ t₆ e₀ e₁ e₂ e₃ e₄ e₅ e₆ g = missing-good (eqb-true k missingKind e₃) l g
+      go false false false false true t₅ t₆ e₀ e₁ e₂ e₃ e₄ e₅ e₆ g = places-good several (λ q. q) (rw (eqb-true k severalKind e₄)) g
+      go false false false false false true t₆ e₀ e₁ e₂ e₃ e₄ e₅ e₆ g = waiting-good (eqb-true k waitingKind e₅) l g
+      go false false false false false false true e₀ e₁ e₂ e₃ e₄ e₅ e₆ g = empty-good endOfSeveral tt (rw (eqb-true k endKind e₆)) g
       go false false false false false false false e₀ e₁ e₂ e₃ e₄ e₅ e₆ g = absurd (false≢true g)
 
 -- some good node stands at `at`, and what follows it from its end on
@@ -164,9 +168,9 @@ unfolding node-defs kindFine GoodNode
 good-fine handOn g = refl
 good-fine (servedValue v) g = value-law v .1 g
 good-fine (allServed n) g = le-leb n maxArguments g
-good-fine (missingKey w x) g = rw (le-leb (length (w .key)) maxKey (g .0 .key)) (le-leb (length (w .command)) maxBytes (g .0 .command))
+good-fine (missingKey w x) g = rw (le-leb (length (w .key)) maxKey (g .0 .key)) (le-leb (length (w .command)) maxCommandKey (g .0 .command))
 good-fine (several n) g = le-leb n maxArguments g
-good-fine (waitingPlace w x) g = rw (le-leb (length (w .key)) maxKey (g .0 .key)) (le-leb (length (w .command)) maxBytes (g .0 .command))
+good-fine (waitingPlace w x) g = rw (le-leb (length (w .key)) maxKey (g .0 .key)) (le-leb (length (w .command)) maxCommandKey (g .0 .command))
 good-fine endOfSeveral g = refl
 
 pub stands-fine : (s : Bytes) (at : ℕ) (nd : Node) (r : Bytes) → NodeAt s at nd r → (wholeAt s at ≡ true) × (headFine s (headAt s at) ≡ true)

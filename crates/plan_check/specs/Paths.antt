@@ -10,8 +10,9 @@ use Rattle.buffer.specs.Same.{Bytes, same}
 use Rattle.buffer.specs.Field.{read32}
 use Rattle.buffer.specs.Part.{part}
 use Rattle.config.specs.Limits.{maxCommands}
-use Rattle.resp3.specs.Value.{null, encode}
+use Rattle.resp3.specs.Value.{nullBytes}
 use Rattle.resp3.specs.Ends.{isValue}
+use Rattle.planning.specs.Plan.{handOnKind, servedKind, allServedKind, missingKind, severalKind, waitingKind, endKind, planHeadSize, nullStart}
 use Rattle.plan.specs.declared.NodeHead.{NodeHead}
 use Rattle.plan.specs.Head.{endAt, headAt, HeadIn}
 use Rattle.plan_check.specs.declared.Walk.{Walk}
@@ -53,46 +54,47 @@ module _ (s : Bytes) (h : NodeHead) where
   abbrev b : ℕ
   b = h .end - h .second
 
-  pub kind-0 : h .kind ≡ 0 → headFine s h ≡ emptyFine a b (h .number)
+  pub kind-0 : h .kind ≡ handOnKind → headFine s h ≡ emptyFine a b (h .number)
   unfolding headFine kindFine
   kind-0 e = rw e
 
-  pub kind-1 : h .kind ≡ 1 → headFine s h ≡ valueFine b (h .number) (isValue (part s (h .first) a))
+  pub kind-1 : h .kind ≡ servedKind → headFine s h ≡ valueFine b (h .number) (isValue (part s (h .first) a))
   unfolding headFine kindFine
   kind-1 e = rw e
 
-  pub kind-2 : h .kind ≡ 2 → headFine s h ≡ placesFine a b (h .number)
+  pub kind-2 : h .kind ≡ allServedKind → headFine s h ≡ placesFine a b (h .number)
   unfolding headFine kindFine
   kind-2 e = rw e
 
-  pub kind-3 : h .kind ≡ 3 → headFine s h ≡ keyFine a b
+  pub kind-3 : h .kind ≡ missingKind → headFine s h ≡ keyFine a b
   unfolding headFine kindFine
   kind-3 e = rw e
 
-  pub kind-4 : h .kind ≡ 4 → headFine s h ≡ placesFine a b (h .number)
+  pub kind-4 : h .kind ≡ severalKind → headFine s h ≡ placesFine a b (h .number)
   unfolding headFine kindFine
   kind-4 e = rw e
 
-  pub kind-5 : h .kind ≡ 5 → headFine s h ≡ keyFine a b
+  pub kind-5 : h .kind ≡ waitingKind → headFine s h ≡ keyFine a b
   unfolding headFine kindFine
   kind-5 e = rw e
 
-  pub kind-6 : h .kind ≡ 6 → headFine s h ≡ emptyFine a b (h .number)
+  pub kind-6 : h .kind ≡ endKind → headFine s h ≡ emptyFine a b (h .number)
   unfolding headFine kindFine
   kind-6 e = rw e
 
-  pub kind-other : (h .kind ≡ 0 → ⊥) → (h .kind ≡ 1 → ⊥) → (h .kind ≡ 2 → ⊥) → (h .kind ≡ 3 → ⊥) → (h .kind ≡ 4 → ⊥) → (h .kind ≡ 5 → ⊥) → (h .kind ≡ 6 → ⊥)
+  pub kind-other : (h .kind ≡ handOnKind → ⊥) → (h .kind ≡ servedKind → ⊥) → (h .kind ≡ allServedKind → ⊥) → (h .kind ≡ missingKind → ⊥)
+      → (h .kind ≡ severalKind → ⊥) → (h .kind ≡ waitingKind → ⊥) → (h .kind ≡ endKind → ⊥)
       → headFine s h ≡ false
   unfolding headFine kindFine
   kind-other n₀ n₁ n₂ n₃ n₄ n₅ n₆ =
       rw (
-        ne-eqb (h .kind) 0 n₀,
-        ne-eqb (h .kind) 1 n₁,
-        ne-eqb (h .kind) 2 n₂,
-        ne-eqb (h .kind) 3 n₃,
-        ne-eqb (h .kind) 4 n₄,
-        ne-eqb (h .kind) 5 n₅,
-        ne-eqb (h .kind) 6 n₆,
+        ne-eqb (h .kind) handOnKind n₀,
+        ne-eqb (h .kind) servedKind n₁,
+        ne-eqb (h .kind) allServedKind n₂,
+        ne-eqb (h .kind) missingKind n₃,
+        ne-eqb (h .kind) severalKind n₄,
+        ne-eqb (h .kind) waitingKind n₅,
+        ne-eqb (h .kind) endKind n₆,
       )
 
 -- ---- a step
@@ -129,18 +131,19 @@ parts-lie s at h e i = let q = whole-says s at e in rw i (omega arith, omega ari
 -- ---- the start
 
 module _ (s : Bytes) where
-  pub start-short : length s < 8 → startFine s ≡ false
+  pub start-short : length s < planHeadSize → startFine s ≡ false
   unfolding startFine
-  start-short h = rw (lt-leb 8 (length s) h)
+  start-short h = rw (lt-leb planHeadSize (length s) h)
 
   pub start-flags : 1 < getD s 0 0 → startFine s ≡ false
   unfolding startFine
-  start-flags h = rw (lt-leb (getD s 0 0) 1 h) (both-no (leb 8 (length s)))
+  start-flags h = rw (lt-leb (getD s 0 0) 1 h) (both-no (leb planHeadSize (length s)))
 
-  pub start-null : same (part s 1 3) (encode null) ≡ false → startFine s ≡ false
+  pub start-null : same (part s nullStart 3) nullBytes ≡ false → startFine s ≡ false
   unfolding startFine
-  start-null e = rw (e, both-no (leb (getD s 0 0) 1)) (both-no (leb 8 (length s)))
+  start-null e = rw (e, both-no (leb (getD s 0 0) 1)) (both-no (leb planHeadSize (length s)))
 
-  pub start-count : (n : ℕ) → 8 ≤ length s → getD s 0 0 ≤ 1 → same (part s 1 3) (encode null) ≡ true → n ≡ read32 s 4 → leb n maxCommands ≡ startFine s
+  pub start-count : (n : ℕ) → planHeadSize ≤ length s → getD s 0 0 ≤ 1 → same (part s nullStart 3) nullBytes ≡ true → n ≡ read32 s 4
+      → leb n maxCommands ≡ startFine s
   unfolding startFine
-  start-count n h i e j = rw (le-leb 8 (length s) h, le-leb (getD s 0 0) 1 i, e, j)
+  start-count n h i e j = rw (le-leb planHeadSize (length s) h, le-leb (getD s 0 0) 1 i, e, j)

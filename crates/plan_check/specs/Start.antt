@@ -15,8 +15,8 @@ use Rattle.buffer.specs.Field.{le32, read32, Octets, length-le}
 use Rattle.buffer.specs.Part.{part, drop-part}
 use Rattle.config.specs.Limits.{maxCommands}
 use Rattle.format.specs.Runs.{encAll}
-use Rattle.resp3.specs.Value.{null, encode}
-use Rattle.planning.specs.Plan.{encNode, encPlan}
+use Rattle.resp3.specs.Value.{encode, nullBytes}
+use Rattle.planning.specs.Plan.{encNode, encPlan, planHeadSize, nullStart}
 use Rattle.planning.specs.Rules.{valuesThen, ordered, IsPlan}
 use Rattle.plan.specs.Decode.{isPlan}
 use Rattle.plan.specs.Law.{read-start, plan-law}
@@ -31,9 +31,9 @@ use Rattle.plan_check.specs.Law.{Rest, step-to, step-refused, end-yes, e
 -- ---- what the test of the start says
 
 pub record StartSays (s : Bytes) : Type 0 where
-  pub long : 8 ≤ length s
+  pub long : planHeadSize ≤ length s
   pub flags : getD s 0 0 ≤ 1
-  pub null-bytes : part s 1 3 ≡ encode null
+  pub null-bytes : part s nullStart 3 ≡ nullBytes
   pub count : read32 s 4 ≤ maxCommands
 
 pub start-says : (s : Bytes) → startFine s ≡ true → StartSays s
@@ -51,13 +51,13 @@ flags-of (suc zero) h = refl
 flags-of (suc (suc n)) h = absurd (omega arith)
 
 -- the bytes, in pieces
-start-bytes : (s : Bytes) → Octets s → StartSays s → s ≡ cond (eqb (getD s 0 0) 1) 1 0 ∷ (encode null ++ (le32 (read32 s 4) ++ drop 8 s))
+start-bytes : (s : Bytes) → Octets s → StartSays s → s ≡ cond (eqb (getD s 0 0) 1) 1 0 ∷ (nullBytes ++ (le32 (read32 s 4) ++ drop planHeadSize s))
 start-bytes s octets q =
     let l = q .long in
     let a : drop 0 s ≡ getD s 0 0 ∷ drop 1 s = drop-cons s 0 0 (omega arith) in
-    let b : drop 1 s ≡ part s 1 3 ++ drop 4 s = drop-part s 1 3 in
-    let c : drop 4 s ≡ le32 (read32 s 4) ++ drop 8 s = field-then s octets 4 4 l in
-    let n : part s 1 3 ≡ encode null = q .null-bytes in
+    let b : drop 1 s ≡ part s nullStart 3 ++ drop 4 s = drop-part s nullStart 3 in
+    let c : drop 4 s ≡ le32 (read32 s 4) ++ drop planHeadSize s = field-then s octets 4 4 l in
+    let n : part s nullStart 3 ≡ nullBytes = q .null-bytes in
     let f : getD s 0 0 ≡ cond (eqb (getD s 0 0) 1) 1 0 = flags-of (getD s 0 0) (q .flags) in
     a ∙ ap₂ (λ (x : ℕ) (y : Bytes). x ∷ y) f (b ∙ ap₂ (λ (x y : Bytes). x ++ y) n c)
 
@@ -67,13 +67,13 @@ cond-flags : (b : Bool) → cond b 1 0 ≤ 1
 cond-flags true = omega arith
 cond-flags false = omega arith
 
-written-start : (f c : ℕ) (r : Bytes) → f ≤ 1 → c ≤ maxCommands → startFine (f ∷ (encode null ++ (le32 c ++ r))) ≡ true
+written-start : (f c : ℕ) (r : Bytes) → f ≤ 1 → c ≤ maxCommands → startFine (f ∷ (nullBytes ++ (le32 c ++ r))) ≡ true
 unfolding startFine encode part same
 written-start f c r h i =
-    let t : Bytes = f ∷ (encode null ++ (le32 c ++ r)) in
+    let t : Bytes = f ∷ (nullBytes ++ (le32 c ++ r)) in
     let g = read-start f c r i in
-    let l : 8 ≤ length t = let k = length-append (le32 c) r in let m = length-le 4 c in omega arith in
-    rw (le-leb 8 (length t) l, le-leb f 1 h, g .count) (le-leb c maxCommands i)
+    let l : planHeadSize ≤ length t = let k = length-append (le32 c) r in let m = length-le 4 c in omega arith in
+    rw (le-leb planHeadSize (length t) l, le-leb f 1 h, g .count) (le-leb c maxCommands i)
 
 pub plan-start : (s : Bytes) → IsPlan s → startFine s ≡ true
 unfolding encPlan
@@ -105,7 +105,7 @@ walk-starts s octets e = record { inside = q .long; ahead = on; back = off }
           nodes = p .nodes;
           good = w .good .each;
           order = ap (λ (n : ℕ). ordered n (p .nodes)) c ∙ w .good .order;
-          is = ap (λ (t : Bytes). drop 8 t) (w .is) ∙ g .behind;
+          is = ap (λ (t : Bytes). drop planHeadSize t) (w .is) ∙ g .behind;
         }
 
     off : Rest s (startAt s) → IsPlan s
@@ -114,7 +114,7 @@ walk-starts s octets e = record { inside = q .long; ahead = on; back = off }
           plan = record { transaction = eqb (getD s 0 0) 1; commands = read32 s 4; nodes = r .nodes };
           good = record { count = q .count; each = r .good; order = r .order };
           is = start-bytes s octets q
-              ∙ ap (λ (l : Bytes). cond (eqb (getD s 0 0) 1) 1 0 ∷ (encode null ++ (le32 (read32 s 4) ++ l))) (r .is);
+              ∙ ap (λ (l : Bytes). cond (eqb (getD s 0 0) 1) 1 0 ∷ (nullBytes ++ (le32 (read32 s 4) ++ l))) (r .is);
         }
 
 -- a step keeps it, and goes on

@@ -5,6 +5,7 @@ ghost use mathlib.Core.Path.{_≡_};
 ghost use Prim.Native.Nat.{_≤_};
 ghost use lib.ListN.{length};
 ghost use Rattle.resp3.specs.Ends.{isValue};
+ghost use Rattle.planning.specs.Plan.{planHeadSize};
 ghost use Rattle.plan.specs.Decode.{isPlan};
 ghost use Rattle.plan_check.specs.Check.{wholeAt, emptyFine, valueFine, placesFine, keyFine, headFine, asCommand, asValue, asEnd, asPlace};
 ghost use Rattle.plan_check.specs.Check.{followed, walkedPast, finished, startFine, startAt};
@@ -29,10 +30,10 @@ fn whole_at(plan: &[u8], at: usize) -> bool
     requires { ⌜ at ≤ length (now plan) ⌝ }
     ensures { λ r. ⌜ r ≡ wholeAt (now (plan .entry)) at ⌝ }
 {
-    if plan.len() - at < 20 {
+    if plan.len() - at < planning::NODE_HEAD {
         return false;
     }
-    let rest = plan.len() - at - 20;
+    let rest = plan.len() - at - planning::NODE_HEAD;
     let first = buffer::read_u32(plan, at + 4) as usize;
     if rest < first {
         return false;
@@ -40,7 +41,7 @@ fn whole_at(plan: &[u8], at: usize) -> bool
     buffer::read_u32(plan, at + 8) as usize <= rest - first
 }
 
-// Kinds 0 and 6: no parts and no number.
+// A reply handed on, the end of several: no parts and no number.
 fn empty_ok(first: usize, second: usize, number: u64) -> bool
     ensures { λ r. ⌜ r ≡ emptyFine first second number ⌝ }
 {
@@ -53,7 +54,7 @@ fn empty_ok(first: usize, second: usize, number: u64) -> bool
     number == 0
 }
 
-// Kind 1: a value alone.
+// A served value: a value alone.
 fn value_ok(value: &[u8], second: usize, number: u64) -> bool
     ensures { λ r. ⌜ r ≡ valueFine second number (isValue (now (value .entry))) ⌝ }
 {
@@ -66,7 +67,7 @@ fn value_ok(value: &[u8], second: usize, number: u64) -> bool
     resp3::is_value(value)
 }
 
-// Kinds 2 and 4: a number of places alone.
+// All places served, several keys: a number of places alone.
 fn places_ok(first: usize, second: usize, number: u64) -> bool
     ensures { λ r. ⌜ r ≡ placesFine first second number ⌝ }
 {
@@ -79,14 +80,14 @@ fn places_ok(first: usize, second: usize, number: u64) -> bool
     number <= config::MAX_ARGUMENTS as u64
 }
 
-// Kinds 3 and 5: a key and a command key.
+// A missing key, a place that waits: a key and a command key.
 fn key_ok(first: usize, second: usize) -> bool
     ensures { λ r. ⌜ r ≡ keyFine first second ⌝ }
 {
     if first > config::MAX_KEY {
         return false;
     }
-    second <= config::MAX_BYTES
+    second <= config::MAX_COMMAND_KEY
 }
 
 // Whether the node of that head is one by itself: its kind, parts and number.
@@ -100,25 +101,25 @@ fn node_ok(plan: &[u8], h: NodeHead) -> bool
     let to = h.second;
     let first = to - from;
     let second = h.end - to;
-    if kind == 0 {
+    if kind == planning::NODE_HAND_ON {
         return empty_ok(first, second, number);
     }
-    if kind == 1 {
+    if kind == planning::NODE_SERVED {
         return value_ok(&plan[from..to], second, number);
     }
-    if kind == 2 {
+    if kind == planning::NODE_ALL_SERVED {
         return places_ok(first, second, number);
     }
-    if kind == 3 {
+    if kind == planning::NODE_MISSING {
         return key_ok(first, second);
     }
-    if kind == 4 {
+    if kind == planning::NODE_SEVERAL {
         return places_ok(first, second, number);
     }
-    if kind == 5 {
+    if kind == planning::NODE_WAITING {
         return key_ok(first, second);
     }
-    if kind == 6 {
+    if kind == planning::NODE_END {
         return empty_ok(first, second, number);
     }
     false
@@ -132,7 +133,7 @@ fn as_command(commands: u32, h: NodeHead) -> Walked
     if commands == 0 {
         return Walked::Refused;
     }
-    if kind == 2 {
+    if kind == planning::NODE_ALL_SERVED {
         return Walked::To(Walk {
             at: h.end,
             commands: commands - 1,
@@ -140,7 +141,7 @@ fn as_command(commands: u32, h: NodeHead) -> Walked
             several: false,
         });
     }
-    if kind == 4 {
+    if kind == planning::NODE_SEVERAL {
         return Walked::To(Walk {
             at: h.end,
             commands: commands - 1,
@@ -148,7 +149,7 @@ fn as_command(commands: u32, h: NodeHead) -> Walked
             several: true,
         });
     }
-    if kind > 4 {
+    if kind > planning::NODE_SEVERAL {
         return Walked::Refused;
     }
     Walked::To(Walk {
@@ -166,7 +167,7 @@ fn as_value(places: u64, commands: u32, h: NodeHead) -> Walked
     if places == 0 {
         return as_command(commands, h);
     }
-    if h.kind == 1 {
+    if h.kind == planning::NODE_SERVED {
         return Walked::To(Walk {
             at: h.end,
             commands: commands,
@@ -181,7 +182,7 @@ fn as_value(places: u64, commands: u32, h: NodeHead) -> Walked
 fn as_end(commands: u32, h: NodeHead) -> Walked
     ensures { λ r. ⌜ r ≡ asEnd commands (h .kind) (h .end) ⌝ }
 {
-    if h.kind == 6 {
+    if h.kind == planning::NODE_END {
         return Walked::To(Walk {
             at: h.end,
             commands: commands,
@@ -200,7 +201,7 @@ fn as_place(places: u64, commands: u32, h: NodeHead) -> Walked
     if places == 0 {
         return as_end(commands, h);
     }
-    if kind == 1 {
+    if kind == planning::NODE_SERVED {
         return Walked::To(Walk {
             at: h.end,
             commands: commands,
@@ -208,7 +209,7 @@ fn as_place(places: u64, commands: u32, h: NodeHead) -> Walked
             several: true,
         });
     }
-    if kind == 5 {
+    if kind == planning::NODE_WAITING {
         return Walked::To(Walk {
             at: h.end,
             commands: commands,
@@ -262,26 +263,26 @@ fn walk_done(w: Walk) -> bool
 fn start_ok(plan: &[u8]) -> bool
     ensures { λ r. ⌜ r ≡ startFine (now (plan .entry)) ⌝ }
 {
-    if plan.len() < 8 {
+    if plan.len() < planning::PLAN_HEAD {
         return false;
     }
     if plan[0] > 1 {
         return false;
     }
-    if !buffer::same_at(plan, 1, b"_\r\n") {
+    if !resp3::null_at(plan, planning::NULL_START) {
         return false;
     }
-    buffer::read_u32(plan, 4) as usize <= config::MAX_COMMANDS
+    buffer::read_u32(plan, planning::NULL_END) as usize <= config::MAX_COMMANDS
 }
 
 // At the first node.
 fn walk_start(plan: &[u8]) -> Walk
-    requires { ⌜ 8 ≤ length (now plan) ⌝ }
+    requires { ⌜ planHeadSize ≤ length (now plan) ⌝ }
     ensures { λ r. ⌜ r ≡ startAt (now (plan .entry)) ⌝ }
 {
     Walk {
-        at: 8,
-        commands: buffer::read_u32(plan, 4),
+        at: planning::PLAN_HEAD,
+        commands: buffer::read_u32(plan, planning::NULL_END),
         places: 0,
         several: false,
     }

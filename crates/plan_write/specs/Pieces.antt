@@ -9,20 +9,20 @@ use lib.ListN.{length, length-append}
 use Rattle.buffer.specs.Same.{Bytes}
 use Rattle.buffer.specs.Field.{le, le32, le64}
 use Rattle.format.specs.Runs.{encAll}
-use Rattle.resp3.specs.Value.{null, encode}
+use Rattle.resp3.specs.Value.{encode, nullBytes}
 use Rattle.cursor.specs.At.{rangeBytes, RangeIn, nextAt, ArgsIn}
 use Rattle.cursor.specs.declared.Range.{Range}
 use Rattle.cursor.specs.Steps.{in-more, in-start}
 use Rattle.command_key.specs.declared.CommandKey.{CommandKey}
 use Rattle.command_key.specs.declared.CommandKey.the-variants.{Part, Joined, Named}
-use Rattle.command_key.specs.Key.{nameBytes, keyBytes, KeyIn}
+use Rattle.command_key.specs.Key.{nameBytes, keyBytes, KeyIn, named-joined}
 use Rattle.command_key.specs.Keys.{range-length}
 use Rattle.command_key.specs.Joined.{joinedAt, joined-none, joined-length}
-use Rattle.planning.specs.Plan.{Plan, nodeBytes, encNode, encPlan}
+use Rattle.planning.specs.Plan.{Plan, nodeBytes, encNode, encPlan, planHeadSize, nodeHeadSize}
 
 -- flags (bit 0 transaction), `_` CR LF, the number of commands
 unfoldable pub planHead : Bool → ℕ → Bytes
-planHead b n = cond b 1 0 ∷ (encode null ++ le32 n)
+planHead b n = cond b 1 0 ∷ (nullBytes ++ le32 n)
 
 -- kind, the two lengths, the number
 unfoldable pub nodeHead : ℕ → ℕ → ℕ → ℕ → Bytes
@@ -31,7 +31,7 @@ nodeHead kind a b number = le32 kind ++ (le32 a ++ (le32 b ++ le64 number))
 -- a plan is its head and its nodes
 pub plan-pieces : (p : Plan) → encPlan p ≡ planHead (p .transaction) (p .commands) ++ encAll encNode (p .nodes)
 unfolding encPlan planHead
-plan-pieces p = ap (λ (z : Bytes). cond (p .transaction) 1 0 ∷ z) (sym (append-assoc (encode null) (le32 (p .commands)) (encAll encNode (p .nodes))))
+plan-pieces p = ap (λ (z : Bytes). cond (p .transaction) 1 0 ∷ z) (sym (append-assoc nullBytes (le32 (p .commands)) (encAll encNode (p .nodes))))
 
 -- a node is its head and its parts
 pub node-pieces : (kind : ℕ) (a b : Bytes) (number : ℕ) → nodeBytes kind a b number ≡ nodeHead kind (length a) (length b) number ++ (a ++ b)
@@ -46,16 +46,16 @@ node-pieces kind a b number =
 
 -- ---- lengths
 
-pub length-node-head : (kind a b number : ℕ) → length (nodeHead kind a b number) ≡ 20
+pub length-node-head : (kind a b number : ℕ) → length (nodeHead kind a b number) ≡ nodeHeadSize
 unfolding nodeHead le
 length-node-head kind a b number = refl
 
-pub length-plan-head : (b : Bool) (n : ℕ) → length (planHead b n) ≡ 8
+pub length-plan-head : (b : Bool) (n : ℕ) → length (planHead b n) ≡ planHeadSize
 unfolding planHead le encode
 length-plan-head b n = refl
 
 -- a node takes 20 bytes and its parts
-pub length-node : (kind : ℕ) (a b : Bytes) (number : ℕ) → length (nodeBytes kind a b number) ≡ 20 + length a + length b
+pub length-node : (kind : ℕ) (a b : Bytes) (number : ℕ) → length (nodeBytes kind a b number) ≡ nodeHeadSize + length a + length b
 length-node kind a b number =
     let h = length-node-head kind (length a) (length b) number in
     let i = length-append (nodeHead kind (length a) (length b) number) (a ++ b) in
@@ -95,6 +95,7 @@ key-bound s (Named json key path) w =
     let p = range-length s path (w .1) in
     let a = w .0 .1 in
     let b = w .1 .1 in
+    let e = ap length (named-joined (nameBytes json) (rangeBytes s key) (rangeBytes s path)) in
     let i = length-append (nameBytes json) (rangeBytes s key ++ rangeBytes s path) in
     let j = length-append (rangeBytes s key) (rangeBytes s path) in
     omega arith

@@ -10,13 +10,8 @@ ghost use lib.ListN.{length};
 ghost use Rattle.buffer.specs.Part.{put};
 ghost use Rattle.config.specs.Limits.{maxArena, maxBytes};
 ghost use Rattle.command_key.specs.Key.{keyBytes, KeyIn};
-ghost use Rattle.planning.specs.Plan.{nodeBytes};
+ghost use Rattle.planning.specs.Plan.{nodeBytes, servedKind, planHeadSize, nodeHeadSize};
 ghost use Rattle.plan_write.specs.Pieces.{planHead, nodeHead};
-
-// Bytes of the plan's head.
-pub const PLAN_HEAD: usize = 8;
-// Bytes of a node before its parts.
-pub const NODE_HEAD: usize = 20;
 
 // The plan's flags: bit 0 says that it is a transaction's.
 fn flags(transaction: bool) -> u8
@@ -27,18 +22,18 @@ fn flags(transaction: bool) -> u8
 
 // The plan's head: flags, `_` CR LF, the number of commands.
 pub fn write_plan_head(dst: &mut [u8], transaction: bool, commands: u32) -> usize
-    requires { ⌜ 8 ≤ length (now dst) ⌝ }
-    ensures { λ r. ⌜ (r ≡ 8) × (now (dst .exit) ≡ put (now (dst .entry)) 0 (planHead transaction commands)) ⌝ }
+    requires { ⌜ planHeadSize ≤ length (now dst) ⌝ }
+    ensures { λ r. ⌜ (r ≡ planHeadSize) × (now (dst .exit) ≡ put (now (dst .entry)) 0 (planHead transaction commands)) ⌝ }
 {
     dst[0] = flags(transaction);
-    buffer::copy_to(dst, 1, b"_\r\n");
-    buffer::write_u32(dst, 4, commands);
-    PLAN_HEAD
+    resp3::write_null(dst, planning::NULL_START);
+    buffer::write_u32(dst, planning::NULL_END, commands);
+    planning::PLAN_HEAD
 }
 
 // A node's kind, the lengths of its parts, and its number.
 fn write_node_head(dst: &mut [u8], to: usize, kind: u32, first: u32, second: u32, number: u64)
-    requires { ⌜ to + 20 ≤ length (now dst) ⌝ }
+    requires { ⌜ to + nodeHeadSize ≤ length (now dst) ⌝ }
     ensures { λ _. ⌜ now (dst .exit) ≡ put (now (dst .entry)) to (nodeHead kind first second number) ⌝ }
 {
     buffer::write_u32(dst, to, kind);
@@ -53,26 +48,26 @@ pub fn write_bare(dst: &mut [u8], to: usize, kind: u32, number: u64) -> usize
     ensures { λ r. ⌜ (r ≡ to + length (nodeBytes kind [] [] number)) × (now (dst .exit) ≡ put (now (dst .entry)) to (nodeBytes kind [] [] number)) ⌝ }
 {
     write_node_head(dst, to, kind, 0, 0, number);
-    to + NODE_HEAD
+    to + planning::NODE_HEAD
 }
 
 // A served value, which is copied.
 pub fn write_served(dst: &mut [u8], to: usize, value: &[u8]) -> usize
-    requires { ⌜ (to + length (nodeBytes 1 (now value) [] 0) ≤ length (now dst)) × (length (now value) ≤ maxArena) ⌝ }
-    ensures { λ r. ⌜ (r ≡ to + length (nodeBytes 1 (now (value .entry)) [] 0))
-        × (now (dst .exit) ≡ put (now (dst .entry)) to (nodeBytes 1 (now (value .entry)) [] 0)) ⌝ }
+    requires { ⌜ (to + length (nodeBytes servedKind (now value) [] 0) ≤ length (now dst)) × (length (now value) ≤ maxArena) ⌝ }
+    ensures { λ r. ⌜ (r ≡ to + length (nodeBytes servedKind (now (value .entry)) [] 0))
+        × (now (dst .exit) ≡ put (now (dst .entry)) to (nodeBytes servedKind (now (value .entry)) [] 0)) ⌝ }
 {
-    write_node_head(dst, to, 1, value.len() as u32, 0, 0);
-    buffer::copy_to(dst, to + NODE_HEAD, value);
-    to + NODE_HEAD + value.len()
+    write_node_head(dst, to, planning::NODE_SERVED, value.len() as u32, 0, 0);
+    buffer::copy_to(dst, to + planning::NODE_HEAD, value);
+    to + planning::NODE_HEAD + value.len()
 }
 
 // How long the node of a missing key is.
 pub fn missing_len(key: &[u8], source: &[u8], command: CommandKey) -> usize
     requires { ⌜ KeyIn (now source) command × (length (now key) ≤ maxBytes) × (length (now source) ≤ maxBytes) ⌝ }
-    ensures { λ r. ⌜ r ≡ 20 + length (now (key .entry)) + length (keyBytes (now (source .entry)) command) ⌝ }
+    ensures { λ r. ⌜ r ≡ nodeHeadSize + length (now (key .entry)) + length (keyBytes (now (source .entry)) command) ⌝ }
 {
-    NODE_HEAD + key.len() + command_key::key_len(source, command)
+    planning::NODE_HEAD + key.len() + command_key::key_len(source, command)
 }
 
 // A missing key, alone or as a place: the key, its command key and the client expiry.
@@ -92,8 +87,8 @@ pub fn write_missing(
 {
     let n = command_key::key_len(source, command);
     write_node_head(dst, to, kind, key.len() as u32, n as u32, expiry);
-    buffer::copy_to(dst, to + NODE_HEAD, key);
-    let next = to + NODE_HEAD + key.len();
+    buffer::copy_to(dst, to + planning::NODE_HEAD, key);
+    let next = to + planning::NODE_HEAD + key.len();
     command_key::key_copy(source, command, dst, next);
     next + n
 }

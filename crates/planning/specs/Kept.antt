@@ -8,7 +8,7 @@ use lib.ListN.{length, take, drop, length-append}
 use Rattle.buffer.specs.Cases.{byTest}
 use Rattle.buffer.specs.Same.{Bytes}
 use Rattle.buffer.specs.Field.{le16, le64}
-use Rattle.config.specs.Limits.{maxArguments, maxBytes}
+use Rattle.config.specs.Limits.{maxArguments, maxBytes, maxCommandKey}
 use Rattle.config.specs.declared.Settings.{Settings}
 use Rattle.format.specs.Runs.{encAll, All}
 use Rattle.commands.specs.Names.{isCacheable}
@@ -18,17 +18,18 @@ use Rattle.commands.specs.declared.MultiKey.the-variants.{None, Mget, JsonMget}
 use Rattle.resp3.specs.Value.{IsValue}
 use Rattle.call_record.specs.Record.{Argument, simple, cursor, Command, Record, transaction, ValidArgument, ValidCommand, ValidRecord, encArgument}
 use Rattle.call_record.specs.Record.{encCommand, encRecord}
+use Rattle.command_key.specs.Key.{commandKey}
 use Rattle.book.specs.Book.{Answer, hit, miss, stored, noSpace, invalidated, number}
 use Rattle.book.specs.Calls.{Wanted}
 use borrow.Author.Tests.{leb-false}
-use Rattle.planning.specs.Ask.{Reach, skipped, stopped, named, pastEnd, reach, clientExpiry, anyLate, simples, afterName, butLast, lastOnly}
+use Rattle.planning.specs.Ask.{Reach, skipped, stopped, named, pastEnd, reach, clientExpiry, anyLate, afterName, butLast, lastOnly}
 use Rattle.planning.specs.Ask.{askOne, askBy, askFrom, severalKeys, ask}
-use Rattle.planning.specs.Outcome.{Place, filled, waiting, item, joined, wholeKey, partKeys, wants, placeBy, place, places, servedValues}
+use Rattle.planning.specs.Outcome.{Place, filled, waiting, item, asSimple, wholeKey, partKeys, wants, placeBy, place, places, servedValues}
 use Rattle.planning.specs.Outcome.{singleItem, multipleItem, missing, outcome, outcomes}
 use Rattle.planning.specs.Plan.{endOfSeveral, valueNodes, placeNodes, servedNodes, missingNodes, nodesOf, nodes, planOf}
 use Rattle.planning.specs.Planning.{plannedBy, plannedFrom}
 use Rattle.planning.specs.Rules.{GoodWanted, GoodNode, GoodPlan, IsPlan}
-use Rattle.planning.specs.Small.{Short, after-short, after-count, but-last-short, but-last-count, last-short, joined-short, parts-good, parts-count}
+use Rattle.planning.specs.Small.{Short, after-short, after-count, but-last-short, but-last-count, last-short, key-short, parts-good, parts-count}
 use Rattle.planning.specs.Order.{in-order}
 
 -- ---- lists of good things
@@ -130,12 +131,12 @@ unfolding nodesOf multipleItem servedNodes missingNodes GoodNode
 multiple-nodes [] n ps path x l h g = let i = served-count ps in (omega arith, value-nodes ps h)
 multiple-nodes (m ∷ ms) n ps path x l h g = (g, append-all GoodNode (placeNodes x ps) (endOfSeveral ∷ []) (place-nodes x ps l h) (tt, tt))
 
--- a command's joined simple arguments are no longer than its bytes in the record
-key-fits : (c : Command) → length (encCommand c) ≤ maxBytes → length (joined (simples (c .args))) ≤ maxBytes
+-- a command's key is no longer than its bytes in the record
+key-fits : (c : Command) → length (encCommand c) ≤ maxBytes → length (commandKey (c .args)) ≤ maxCommandKey
 unfolding encCommand
 key-fits c b =
     let args = encAll encArgument (c .args) in
-    let i = joined-short (c .args) in
+    let i = key-short (c .args) in
     let j = length-append (le16 (length (c .args))) args in
     let k = length-append (le64 (c .cursor)) (le16 (length (c .args)) ++ args) in
     let l = length-append (le64 (c .ttl)) (le64 (c .cursor) ++ (le16 (length (c .args)) ++ args)) in
@@ -148,7 +149,7 @@ neither false b e = (refl, e)
 
 module _ (c : Command) (said : List Answer) (fine : All GoodAnswer said) (x : ℕ) (fits : x < 2 ^ 64) where
   -- one key
-  one-nodes : (l : List Argument) → All ValidArgument l → length (joined (simples (c .args))) ≤ maxBytes → All GoodNode (nodesOf (outcome c (askOne l x) said))
+  one-nodes : (l : List Argument) → All ValidArgument l → length (commandKey (c .args)) ≤ maxCommandKey → All GoodNode (nodesOf (outcome c (askOne l x) said))
   unfolding askOne outcome nodesOf GoodNode ValidArgument
   one-nodes [] h b = (tt, tt)
   one-nodes (a ∷ []) h b = (tt, tt)
@@ -157,7 +158,7 @@ module _ (c : Command) (said : List Answer) (fine : All GoodAnswer said) (x : �
   one-nodes (a ∷ (cursor ∷ l)) h b = (tt, tt)
 
   -- several keys
-  several-nodes : (n : Bytes) (ks path : List Bytes) → All Short ks → length ks ≤ maxArguments → Short (joined path)
+  several-nodes : (n : Bytes) (ks path : List Bytes) → All Short ks → length ks ≤ maxArguments → Short (commandKey (asSimple path))
       → All GoodNode (nodesOf (outcome c (severalKeys n ks path x) said))
   unfolding outcome
   several-nodes n ks path h g q =
@@ -167,12 +168,12 @@ module _ (c : Command) (said : List Answer) (fine : All GoodAnswer said) (x : �
       multiple-nodes (missing (places said ws)) n (places said ws) path x fits (places-good said ws fine (parts-good n path ks q h)) (omega arith)
 
   -- by the name
-  named-nodes : (m : MultiKey) (n : Bytes) → All ValidArgument (c .args) → length (c .args) ≤ maxArguments → length (joined (simples (c .args))) ≤ maxBytes
+  named-nodes : (m : MultiKey) (n : Bytes) → All ValidArgument (c .args) → length (c .args) ≤ maxArguments → length (commandKey (c .args)) ≤ maxCommandKey
       → All GoodNode (nodesOf (outcome c (askBy m n (c .args) x) said))
   unfolding askBy
   named-nodes Mget n h g b =
       let i = after-count (c .args) in
-      several-nodes n (afterName (c .args)) [] (after-short (c .args) h) (omega arith) (unfold joined in omega arith)
+      several-nodes n (afterName (c .args)) [] (after-short (c .args) h) (omega arith) (unfold commandKey asSimple in omega arith)
   named-nodes JsonMget n h g b =
       let i = after-count (c .args) in
       let j = but-last-count (afterName (c .args)) in

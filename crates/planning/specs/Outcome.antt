@@ -10,10 +10,11 @@ use Rattle.commands.specs.MultiKey.{multiKey, singleName}
 use Rattle.resp3.specs.Kinds.{byteOf}
 use Rattle.resp3.specs.Value.{counted}
 use Rattle.resp3.specs.declared.Kind.the-variants.{Array}
-use Rattle.call_record.specs.Record.{Command}
+use Rattle.call_record.specs.Record.{Argument, simple, Command}
+use Rattle.command_key.specs.Key.{commandKey}
 use Rattle.book.specs.Book.{Answer, hit, miss, stored, noSpace, invalidated, number}
 use Rattle.book.specs.Calls.{Wanted}
-use Rattle.planning.specs.Ask.{Ask, nothing, uncacheable, oneKey, severalKeys, simples, ask}
+use Rattle.planning.specs.Ask.{Ask, nothing, uncacheable, oneKey, severalKeys, ask}
 
 -- ---- What can become of a command (rules P1, P11, P12): the Rust's own three enums, the innermost first
 
@@ -44,18 +45,18 @@ pub data CachingResult : Type 0 where
 
 -- ---- Command keys (rules P8, P9). Nothing marks where an argument ends, so different commands can share an entry (docs/DIFFERENCES.md)
 
--- byte strings run together
-unfoldable pub joined : List Bytes → Bytes
-joined [] = []
-joined (b ∷ l) = b ++ joined l
-
--- one key, of the command c: all its simple arguments, the name among them (rule P8)
+-- one key, of the command c: by its own argument list, the name among it (rule P8)
 unfoldable pub wholeKey : Command → Bytes → Wanted
-wholeKey c k = record { key = k; command = joined (simples (c .args)) }
+wholeKey c k = record { key = k; command = commandKey (c .args) }
 
--- one of several keys, of the command named n with that path: as the one-key command would have it (rule P9)
+-- byte strings as arguments
+unfoldable pub asSimple : List Bytes → List Argument
+asSimple [] = []
+asSimple (b ∷ l) = simple b ∷ asSimple l
+
+-- one of several keys, of the command named n with that path: by the argument list of the one-key command (rule P9)
 unfoldable pub partKey : Bytes → List Bytes → Bytes → Wanted
-partKey n path k = record { key = k; command = singleName (multiKey n) ++ (k ++ joined path) }
+partKey n path k = record { key = k; command = commandKey (simple (singleName (multiKey n)) ∷ (simple k ∷ asSimple path)) }
 
 -- each of several; a key that stands twice is looked up twice (rule P5)
 unfoldable pub partKeys : Bytes → List Bytes → List Bytes → List Wanted
@@ -119,6 +120,11 @@ unfoldable pub multipleItem : List Wanted → Bytes → List Place → List Byte
 multipleItem [] n ps path x = cached (values (servedValues ps))
 multipleItem (w ∷ ws) n ps path x = notCached (multiple n ps path x)
 
+-- byte strings run together
+unfoldable pub joined : List Bytes → Bytes
+joined [] = []
+joined (b ∷ l) = b ++ joined l
+
 -- what is served, in RESP3's bytes: a value as it was stored, several as an array of them
 unfoldable pub servedBytes : Served → Bytes
 servedBytes (value v) = v
@@ -141,6 +147,6 @@ outcomes asks (c ∷ cs) said =
 -- one name that opens every definition of this page, for cases that compute
 unfoldable pub outcome-defs : Unit {0}
 unfolding
-    joined wholeKey partKey partKeys wants wanted placeBy place places missing servedValues singleItem multipleItem servedBytes
+    joined commandKey wholeKey asSimple partKey partKeys wants wanted placeBy place places missing servedValues singleItem multipleItem servedBytes
     outcome outcomes
 outcome-defs = tt

@@ -8,12 +8,12 @@ use lib.ListN.{length}
 use Rattle.buffer.specs.Same.{Bytes}
 use Rattle.buffer.specs.Field.{le32, le64}
 use Rattle.format.specs.Runs.{encAll}
-use Rattle.resp3.specs.Value.{null, encode}
+use Rattle.resp3.specs.Value.{nullBytes}
 use Rattle.book.specs.Calls.{Wanted}
 use Rattle.planning.specs.Outcome.{Place, filled, waiting, Served, value, values, CacheableCommand, single, multiple, cached, notCached}
 use Rattle.planning.specs.Outcome.{notCacheable, CachingResult, item, ignored}
 
--- ---- The nodes, kinds 0 to 6
+-- ---- The nodes, of seven kinds
 
 pub data Node : Type 0 where
   -- a reply is handed on: the command was ignored or is not cacheable
@@ -74,22 +74,59 @@ planOf b rs = record { transaction = b; commands = length rs; nodes = nodes rs }
 
 -- ---- Their bytes
 
+-- a plan's head has so many bytes
+abbrev pub planHeadSize : ℕ
+planHeadSize = 8
+
+-- of which these, from `nullStart` up to `nullEnd`, are `_`; the number of commands follows
+abbrev pub nullStart : ℕ
+nullStart = 1
+
+abbrev pub nullEnd : ℕ
+nullEnd = 4
+
+-- a node has so many before its parts
+abbrev pub nodeHeadSize : ℕ
+nodeHeadSize = 20
+
+-- the kinds of nodes
+abbrev pub handOnKind : ℕ
+handOnKind = 0
+
+abbrev pub servedKind : ℕ
+servedKind = 1
+
+abbrev pub allServedKind : ℕ
+allServedKind = 2
+
+abbrev pub missingKind : ℕ
+missingKind = 3
+
+abbrev pub severalKind : ℕ
+severalKind = 4
+
+abbrev pub waitingKind : ℕ
+waitingKind = 5
+
+abbrev pub endKind : ℕ
+endKind = 6
+
 -- kind, and the two lengths, and the number; then the two parts
 unfoldable pub nodeBytes : ℕ → Bytes → Bytes → ℕ → Bytes
 nodeBytes kind a b number = le32 kind ++ (le32 (length a) ++ (le32 (length b) ++ (le64 number ++ (a ++ b))))
 
 unfoldable pub encNode : Node → Bytes
-encNode handOn = nodeBytes 0 [] [] 0
-encNode (servedValue v) = nodeBytes 1 v [] 0
-encNode (allServed n) = nodeBytes 2 [] [] n
-encNode (missingKey w x) = nodeBytes 3 (w .key) (w .command) x
-encNode (several n) = nodeBytes 4 [] [] n
-encNode (waitingPlace w x) = nodeBytes 5 (w .key) (w .command) x
-encNode endOfSeveral = nodeBytes 6 [] [] 0
+encNode handOn = nodeBytes handOnKind [] [] 0
+encNode (servedValue v) = nodeBytes servedKind v [] 0
+encNode (allServed n) = nodeBytes allServedKind [] [] n
+encNode (missingKey w x) = nodeBytes missingKind (w .key) (w .command) x
+encNode (several n) = nodeBytes severalKind [] [] n
+encNode (waitingPlace w x) = nodeBytes waitingKind (w .key) (w .command) x
+encNode endOfSeveral = nodeBytes endKind [] [] 0
 
 -- flags (bit 0 transaction), the bytes of `_` for places that stay unfilled, the number of commands, the nodes
 unfoldable pub encPlan : Plan → Bytes
-encPlan p = cond (p .transaction) 1 0 ∷ (encode null ++ (le32 (p .commands) ++ encAll encNode (p .nodes)))
+encPlan p = cond (p .transaction) 1 0 ∷ (nullBytes ++ (le32 (p .commands) ++ encAll encNode (p .nodes)))
 
 -- one name that opens every definition of this page, for cases that compute
 unfoldable pub plan-defs : Unit {0}

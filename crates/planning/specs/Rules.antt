@@ -5,7 +5,7 @@ use mathlib.Core.List.{List, [], _∷_}
 use Prim.Native.Nat.{ℕ, zero, suc, _^_, _≤_, _<_}
 use lib.ListN.{length}
 use Rattle.buffer.specs.Same.{Bytes}
-use Rattle.config.specs.Limits.{maxCommands, maxArguments, maxKey, maxBytes}
+use Rattle.config.specs.Limits.{maxCommands, maxArguments, maxKey, maxCommandKey}
 use Rattle.format.specs.Runs.{All}
 use Rattle.resp3.specs.Value.{IsValue}
 use Rattle.book.specs.Calls.{Wanted}
@@ -16,7 +16,7 @@ use Rattle.planning.specs.Plan.{Node, handOn, servedValue, allServed, mi
 -- a key has at most 65,535 bytes, a command key at most 16 MiB
 pub record GoodWanted (w : Wanted) : Type 0 where
   pub key : length (w .key) ≤ maxKey
-  pub command : length (w .command) ≤ maxBytes
+  pub command : length (w .command) ≤ maxCommandKey
 
 -- a served value is exactly one RESP3 value of at most 16 MiB; there are at most 1,024 places; an expiry has 64 bits
 unfoldable pub GoodNode : Node → Type 0

@@ -12,8 +12,9 @@ use Rattle.commands.specs.MultiKey.{multiKey, singleName}
 use Rattle.commands.specs.declared.MultiKey.{MultiKey}
 use Rattle.commands.specs.declared.MultiKey.the-variants.{None, Mget, JsonMget}
 use Rattle.call_record.specs.Record.{Argument, simple, cursor, ValidArgument, encArgument}
+use Rattle.command_key.specs.Key.{commandKey}
 use Rattle.planning.specs.Ask.{simples, afterName, butLast, lastOnly}
-use Rattle.planning.specs.Outcome.{joined, partKey, partKeys}
+use Rattle.planning.specs.Outcome.{asSimple, partKey, partKeys}
 use Rattle.planning.specs.Rules.{GoodWanted}
 
 -- no longer than an argument
@@ -61,24 +62,24 @@ but-last-count (b ∷ []) = omega arith
 but-last-count (b ∷ (d ∷ l)) = let i = but-last-count (d ∷ l) in omega arith
 
 -- and the path
-pub last-short : (l : List Bytes) → All Short l → Short (joined (lastOnly l))
-unfolding lastOnly joined
+pub last-short : (l : List Bytes) → All Short l → Short (commandKey (asSimple (lastOnly l)))
+unfolding lastOnly commandKey asSimple
 last-short [] h = omega arith
 last-short (b ∷ []) h = let g : length b ≤ maxArgument = h .0 in let j = length-append b [] in omega arith
 last-short (b ∷ (d ∷ l)) h = last-short (d ∷ l) (h .1)
 
--- the joined simple arguments are no longer than the record's bytes of the arguments
-pub joined-short : (l : List Argument) → length (joined (simples l)) ≤ length (encAll encArgument l)
-unfolding joined simples encArgument
-joined-short [] = omega arith
-joined-short (simple b ∷ l) =
-    let i = joined-short l in
-    let j = length-append b (joined (simples l)) in
+-- a command key is no longer than the record's bytes of the arguments
+pub key-short : (l : List Argument) → length (commandKey l) ≤ length (encAll encArgument l)
+unfolding commandKey encArgument
+key-short [] = omega arith
+key-short (simple b ∷ l) =
+    let i = key-short l in
+    let j = length-append b (commandKey l) in
     let k = length-append (encArgument (simple b)) (encAll encArgument l) in
     let m = length-append (le32 (length b)) b in
     omega arith
-joined-short (cursor ∷ l) =
-    let i = joined-short l in let k = length-append (encArgument cursor) (encAll encArgument l) in omega arith
+key-short (cursor ∷ l) =
+    let i = key-short l in let k = length-append (encArgument cursor) (encAll encArgument l) in omega arith
 
 -- `JSON.GET` is the longest of the names
 name-short : (k : MultiKey) → length (singleName k) ≤ 8
@@ -88,13 +89,14 @@ name-short Mget = omega arith
 name-short JsonMget = omega arith
 
 -- each of several keys with its command key
-pub parts-good : (n : Bytes) (path ks : List Bytes) → Short (joined path) → All Short ks → All GoodWanted (partKeys n path ks)
-unfolding partKeys partKey
+pub parts-good : (n : Bytes) (path ks : List Bytes) → Short (commandKey (asSimple path)) → All Short ks → All GoodWanted (partKeys n path ks)
+unfolding partKeys partKey commandKey
 parts-good n path [] q h = tt
 parts-good n path (k ∷ ks) q h =
     let g : length k ≤ maxArgument = h .0 in
-    let a = length-append (singleName (multiKey n)) (k ++ joined path) in
-    let b = length-append k (joined path) in
+    let P : Bytes = commandKey (asSimple path) in
+    let a = length-append (singleName (multiKey n)) (k ++ P) in
+    let b = length-append k P in
     let c = name-short (multiKey n) in
     (record { key = omega arith; command = omega arith }, parts-good n path ks q (h .1))
 

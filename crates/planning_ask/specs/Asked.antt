@@ -12,9 +12,10 @@ use Rattle.config.specs.declared.Settings.{Settings}
 use Rattle.call_record.specs.Record.{Command}
 use Rattle.cursor.specs.At.{rangeBytes, RangeIn, argsOf, ArgsHere}
 use Rattle.cursor.specs.declared.Args.{Args}
+use Rattle.command_key.specs.Key.{commandKey}
 use Rattle.book.specs.Calls.{Wanted}
 use Rattle.planning.specs.Ask as plan
-use Rattle.planning.specs.Outcome.{joined, partKeys}
+use Rattle.planning.specs.Outcome.{asSimple, partKeys}
 use Rattle.planning_ask.specs.declared.Several.{Several}
 use Rattle.planning_ask.specs.declared.KeyAt.{KeyAt}
 use Rattle.planning_ask.specs.declared.Reached.{Reached}
@@ -71,7 +72,7 @@ pub record SeveralIn (s : Bytes) (v : Several) : Type 0 where
   pub here : ArgsHere s (v .args)
   pub inside : RangeIn s (v .path)
   pub enough : v .keys ≤ length (simplesOf s (v .args))
-  pub joins : joined (pathIn s v) ≡ rangeBytes s (v .path)
+  pub joins : commandKey (asSimple (pathIn s v)) ≡ rangeBytes s (v .path)
   -- where there is a key, JSON has a path
   pub alone : v .json ≡ true → 0 < v .keys → pathIn s v ≡ rangeBytes s (v .path) ∷ []
 

@@ -1,7 +1,7 @@
 -- Names of several-key commands, and command keys as this code gathers them: they are planning's. Assumes nothing.
-use mathlib.Core.Path.{_≡_, refl, sym, ap, ap₂}
+use mathlib.Core.Path.{_≡_, refl, sym, ap₂, _∙_}
 use mathlib.Core.Bool.{Bool, true, false}
-use mathlib.Core.List.{List, [], _∷_, _++_}
+use mathlib.Core.List.{_++_}
 use Prim.Native.Nat.{ℕ}
 use native.Mathlib.Omega.{arith}
 use Rattle.buffer.specs.Cases.{byTest}
@@ -10,14 +10,12 @@ use Rattle.buffer.specs.Ascii.{ascii}
 use Rattle.commands.specs.MultiKey.{multiKey, singleName}
 use Rattle.commands.specs.declared.MultiKey.{MultiKey}
 use Rattle.commands.specs.declared.MultiKey.the-variants.{None, Mget, JsonMget}
-use Rattle.call_record.specs.Record.{Argument, simple, cursor}
-use Rattle.cursor.specs.At.{rangeBytes, argsOf, commandOf}
+use Rattle.cursor.specs.At.{rangeBytes, commandOf}
 use Rattle.cursor.specs.declared.Head.{Head}
 use Rattle.cursor.specs.declared.Range.{Range}
 use Rattle.command_key.specs.Key as key
 use Rattle.command_key.specs.declared.CommandKey.the-variants.{Joined, Named}
-use Rattle.planning.specs.Ask as plan
-use Rattle.planning.specs.Outcome.{joined, wholeKey, partKey}
+use Rattle.planning.specs.Outcome.{wholeKey, partKey}
 use Rattle.planning_ask.specs.Asked.{severalName, pathIn, SeveralIn}
 use Rattle.planning_ask.specs.declared.Several.{Several}
 
@@ -48,20 +46,15 @@ single-name false = refl
 
 -- ---- command keys
 
--- the simple arguments joined
-joined-simples : (l : List Argument) → joined (plan.simples l) ≡ key.joined l
-unfolding joined plan.simples key.joined
-joined-simples [] = refl
-joined-simples (simple b ∷ l) = ap (λ (z : Bytes). b ++ z) (joined-simples l)
-joined-simples (cursor ∷ l) = joined-simples l
-
 -- one key
 pub whole-key : (s : Bytes) (h : Head) (k : Bytes) → wholeKey (commandOf s h) k .command ≡ key.keyBytes s (Joined (h .args))
 unfolding wholeKey key.keyBytes
-whole-key s h k = joined-simples (argsOf s (h .args))
+whole-key s h k = refl
 
 -- one of several
 pub part-key : (s : Bytes) (v : Several) (k : Range) → SeveralIn s v
     → partKey (severalName (v .json)) (pathIn s v) (rangeBytes s k) .command ≡ key.keyBytes s (Named (v .json) k (v .path))
-unfolding partKey key.keyBytes
-part-key s v k w = ap₂ (λ (x : Bytes) (y : Bytes). x ++ (rangeBytes s k ++ y)) (single-name (v .json)) (w .joins)
+unfolding partKey key.keyBytes key.commandKey
+part-key s v k w =
+    ap₂ (λ (x : Bytes) (y : Bytes). x ++ (rangeBytes s k ++ y)) (single-name (v .json)) (w .joins)
+    ∙ sym (key.named-joined (key.nameBytes (v .json)) (rangeBytes s k) (rangeBytes s (v .path)))

@@ -16,8 +16,9 @@ use Rattle.cursor.specs.At.{rangeBytes, RangeIn, sizeAt, nextAt, argsAt, argsOf
 use Rattle.cursor.specs.Steps.{one-more, in-start, in-more, args-none, args-more, argNext}
 use Rattle.cursor.specs.Index.{Text, none, text, argIdx}
 use Rattle.cursor.specs.declared.Args.{Args}
+use Rattle.command_key.specs.Key.{commandKey}
 use Rattle.planning.specs.Ask as plan
-use Rattle.planning.specs.Outcome.{joined}
+use Rattle.planning.specs.Outcome.{asSimple}
 use Rattle.planning_ask.specs.Asked.{simplesOf, KeyStep}
 use Rattle.planning_ask.specs.Steps.{withArgument, lastIn, Extracted, SeveralOf, HasName}
 use Rattle.planning_ask.specs.declared.SimpleArgs.{SimpleArgs}
@@ -213,7 +214,7 @@ module _ (s : Bytes) (whole k : Args) (f : SimpleArgs) (p : ArgsHere s whole × 
 
   -- not JSON: all are keys
   pub several-plain : SeveralOf s (argsOf s whole) false (record { json = false; args = k; keys = f .count; path = record { start = k .at; end = k .at } })
-  unfolding joined
+  unfolding commandKey asSimple
   several-plain =
       let c = x .count in
       record {
@@ -233,7 +234,7 @@ module _ (s : Bytes) (whole k : Args) (f : SimpleArgs) (p : ArgsHere s whole × 
 
   -- JSON with nothing behind its name
   pub several-none : f .count ≡ 0 → SeveralOf s (argsOf s whole) true (record { json = true; args = k; keys = 0; path = record { start = k .at; end = k .at } })
-  unfolding joined plan.lastOnly plan.butLast
+  unfolding commandKey asSimple plan.lastOnly plan.butLast
   several-none z =
       let n : simplesOf s k ≡ [] = nil-length (simplesOf s k) (sym (x .count) ∙ z) in
       record {
@@ -253,7 +254,7 @@ module _ (s : Bytes) (whole k : Args) (f : SimpleArgs) (p : ArgsHere s whole × 
 
   -- JSON: the last one is the path
   pub several-json : (f .count ≡ 0 → ⊥) → SeveralOf s (argsOf s whole) true (record { json = true; args = k; keys = f .count - 1; path = f .last })
-  unfolding joined
+  unfolding commandKey asSimple
   several-json z =
       let c = x .count in
       let y : plan.lastOnly (simplesOf s k) ≡ rangeBytes s (f .last) ∷ [] = x .last ∙ rw (ne-eqb (f .count) 0 z) in

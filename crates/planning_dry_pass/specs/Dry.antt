@@ -23,8 +23,8 @@ use Rattle.planning_outcome.specs.Nodes.{nodesAs}
 use Rattle.planning_outcome.specs.Sizes.{nodesFor, sentFor, allNodes, allSent}
 use Rattle.planning_send.specs.Sends.{sentAs}
 use Rattle.planning_dry_pass.specs.Size.{SizedAs}
-use Rattle.planning_dry_pass.specs.Room.{spent, spent-none, spent-more}
-use Rattle.planning_dry_pass.specs.declared.Room.{Room}
+use Rattle.room.specs.Room.{spent, spent-none, spent-more}
+use Rattle.room.specs.declared.Room.{Room}
 use Rattle.planning_dry_pass.specs.declared.Size.{Size}
 
 -- ---- commands that may be planned: they lie inside, are valid, and none is late

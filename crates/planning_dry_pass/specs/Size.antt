@@ -2,11 +2,10 @@
 -- Letters: m mode, c command, o outcome, z a size, s the record's bytes, h the command's head, q a place, ps places, v several keys, x client expiry.
 use mathlib.Core.Path.{_≡_, refl, sym, ap, _∙_}
 use mathlib.Core.List.{List, [], _∷_, _++_}
-use Prim.Native.Nat.{ℕ, _+_, _-_, _≤_, _<_}
+use Prim.Native.Nat.{ℕ, _+_, _-_, _<_}
 use native.Mathlib.Omega.{arith}
 use lib.ListN.{length, length-append}
 use Rattle.buffer.specs.Same.{Bytes}
-use Rattle.buffer.specs.Part.{part, length-part}
 use Rattle.config.specs.declared.CacheMode.{CacheMode}
 use Rattle.format.specs.Runs.{encAll}
 use Rattle.call_record.specs.Record.{Command}
@@ -20,13 +19,11 @@ use Rattle.planning.specs.Outcome as plan
 use Rattle.planning.specs.Outcome.{Place, filled, waiting, missing, item, ignored, notCacheable, singleItem, multipleItem, wholeKey}
 use Rattle.planning.specs.Sent.{keysOf}
 use Rattle.planning.specs.Plan.{servedValue, waitingPlace, placeNodes, nodeBytes, encNode}
+use Rattle.planning.specs.Plan.{handOnKind, servedKind, allServedKind, missingKind, severalKind, waitingKind, endKind}
 use Rattle.planning_ask.specs.Asked.{severalName, pathIn, SeveralIn}
 use Rattle.planning_ask.specs.Keys.{whole-key}
 use Rattle.planning_ask.specs.declared.Several.{Several}
 use Rattle.plan_write.specs.Pieces.{length-node}
-use Rattle.shard_lookup.specs.declared.Looked.{Looked}
-use Rattle.shard_lookup.specs.declared.Looked.the-variants.{Hit, Miss}
-use Rattle.planning_outcome.specs.Result.{PlaceTold}
 use Rattle.planning_outcome.specs.Places.{item-served, item-missing}
 use Rattle.planning_outcome.specs.Nodes.{nodesAs, nodes-ignored, nodes-not-cacheable, nodes-value, nodes-single, nodes-values, nodes-multiple}
 use Rattle.planning_places.specs.Measure.{Measures}
@@ -40,32 +37,17 @@ pub record SizedAs (m : CacheMode) (c : Command) (o : plan.CachingResult) (z : S
   pub plan : z .plan ≡ length (nodesAs o)
   pub send : z .send ≡ length (sentAs m c o)
 
--- ---- what a peek tells of a key's place
-
--- it is served by so many bytes of the arena
-pub told-value : (a : Bytes) (w : Wanted) (q : Place) (r : Looked) (from to : ℕ) → r ≡ Hit from to → PlaceTold a w q r
-    → (from ≤ to) × (to ≤ length a) × (q ≡ filled (part a from (to - from))) × (to - from ≡ length (part a from (to - from)))
-told-value a w q r from to e h =
-    let k : (from ≤ to) × (to ≤ length a) × (q ≡ filled (part a from (to - from))) = rw e at h in
-    let x = k .0 in
-    let y = k .1 in
-    (x, y, k .2, sym (length-part a from (to - from) (omega arith)))
-
--- it waits
-pub told-waits : (a : Bytes) (w : Wanted) (q : Place) (r : Looked) (n : ℕ) → r ≡ Miss n → PlaceTold a w q r → q ≡ waiting w
-told-waits a w q r n e h = rw e at h
-
 module _ (m : CacheMode) where
   -- ---- a reply that is handed on
 
   pub size-ignored : (s : Bytes) (h : Head) (n : ℕ) → n ≡ length (ownBytes s h) → SizedAs m (commandOf s h) ignored (record { plan = 20; send = n })
   size-ignored s h n e =
-      record { plan = sym (ap length nodes-ignored ∙ length-node 0 [] [] 0); send = e ∙ sym (ap length (own-ignored m s h)) }
+      record { plan = sym (ap length nodes-ignored ∙ length-node handOnKind [] [] 0); send = e ∙ sym (ap length (own-ignored m s h)) }
 
   pub size-not-cacheable : (s : Bytes) (h : Head) (n : ℕ) → n ≡ length (ownBytes s h)
       → SizedAs m (commandOf s h) (item notCacheable) (record { plan = 20; send = n })
   size-not-cacheable s h n e =
-      record { plan = sym (ap length nodes-not-cacheable ∙ length-node 0 [] [] 0); send = e ∙ sym (ap length (own-not-cacheable m s h)) }
+      record { plan = sym (ap length nodes-not-cacheable ∙ length-node handOnKind [] [] 0); send = e ∙ sym (ap length (own-not-cacheable m s h)) }
 
   -- ---- one key
 
@@ -73,7 +55,7 @@ module _ (m : CacheMode) where
       → SizedAs m c (item (singleItem q x)) (record { plan = 20 + n; send = 0 })
   unfolding singleItem
   size-hit c q x v n e l =
-      let a = ap length (nodes-value v) ∙ length-node 1 v [] 0 in
+      let a = ap length (nodes-value v) ∙ length-node servedKind v [] 0 in
       rw e (record { plan = omega arith; send = sym (ap length (none-cached m c (plan.value v))) })
 
   pub size-miss : (s : Bytes) (h : Head) (key : Range) (q : Place) (x : ℕ) (t : Bytes) (n k l : ℕ) → q ≡ waiting (wholeKey (commandOf s h) (rangeBytes s key))
@@ -84,7 +66,7 @@ module _ (m : CacheMode) where
       let w : Wanted = wholeKey (commandOf s h) (rangeBytes s key) in
       let y : length (w .command) ≡ length (keyBytes s (Joined (h .args))) = ap length (whole-key s h (rangeBytes s key)) in
       let u = ap length p in
-      let a = ap length (nodes-single w x) ∙ length-node 3 (w .key) (w .command) x in
+      let a = ap length (nodes-single w x) ∙ length-node missingKind (w .key) (w .command) x in
       let b = ap length (packs-missing m (commandOf s h) (plan.single w x) ∙ ap (λ (z : Bytes). cachingBytes m ++ z) (packs-one s h key x))
       ∙ length-append (cachingBytes m) (singleBytes s h key) in
       rw e (record { plan = omega arith; send = omega arith })
@@ -97,15 +79,15 @@ module _ (m : CacheMode) where
   node-lengths x [] = refl
   node-lengths x (filled b ∷ ps) =
       let i = node-lengths x ps in
-      let j = length-append (nodeBytes 1 b [] 0) (encAll encNode (placeNodes x ps)) in
-      let k = length-append (nodeBytes 1 b [] 0) (encAll encNode (placeNodes 0 ps)) in
+      let j = length-append (nodeBytes servedKind b [] 0) (encAll encNode (placeNodes x ps)) in
+      let k = length-append (nodeBytes servedKind b [] 0) (encAll encNode (placeNodes 0 ps)) in
       omega arith
   node-lengths x (waiting w ∷ ps) =
       let i = node-lengths x ps in
-      let j = length-append (nodeBytes 5 (w .key) (w .command) x) (encAll encNode (placeNodes x ps)) in
-      let k = length-append (nodeBytes 5 (w .key) (w .command) 0) (encAll encNode (placeNodes 0 ps)) in
-      let a = length-node 5 (w .key) (w .command) x in
-      let b = length-node 5 (w .key) (w .command) 0 in
+      let j = length-append (nodeBytes waitingKind (w .key) (w .command) x) (encAll encNode (placeNodes x ps)) in
+      let k = length-append (nodeBytes waitingKind (w .key) (w .command) 0) (encAll encNode (placeNodes 0 ps)) in
+      let a = length-node waitingKind (w .key) (w .command) x in
+      let b = length-node waitingKind (w .key) (w .command) 0 in
       omega arith
 
   module _ (c : Command) (s : Bytes) (v : Several) (ps : List Place) (x : ℕ) (d : Measured) (w : Measures ps d) where
@@ -119,8 +101,8 @@ module _ (m : CacheMode) where
         let q : length (missing ps) ≡ 0 = sym (w .number) ∙ e in
         let i = item-served ps (severalName (v .json)) (pathIn s v) x q in
         let a = ap length (ap (λ (z : plan.PrepCacheItem). nodesAs (item z)) i ∙ nodes-values 0 ps q)
-        ∙ length-append (nodeBytes 2 [] [] (length ps)) (encAll encNode (placeNodes 0 ps)) in
-        let b = length-node 2 [] [] (length ps) in
+        ∙ length-append (nodeBytes allServedKind [] [] (length ps)) (encAll encNode (placeNodes 0 ps)) in
+        let b = length-node allServedKind [] [] (length ps) in
         let n = w .nodes in
         record {
           plan = omega arith;
@@ -135,10 +117,10 @@ module _ (m : CacheMode) where
         let i = item-missing ps (severalName (v .json)) (pathIn s v) x (λ z. e (w .number ∙ z)) in
         let P : Bytes = encAll encNode (placeNodes x ps) in
         let a = ap length (ap (λ (z : plan.PrepCacheItem). nodesAs (item z)) i ∙ nodes-multiple (severalName (v .json)) ps (pathIn s v) x)
-        ∙ length-append (nodeBytes 4 [] [] (length ps)) (P ++ nodeBytes 6 [] [] 0) in
-        let b = length-append P (nodeBytes 6 [] [] 0) in
-        let y = length-node 4 [] [] (length ps) in
-        let r = length-node 6 [] [] 0 in
+        ∙ length-append (nodeBytes severalKind [] [] (length ps)) (P ++ nodeBytes endKind [] [] 0) in
+        let b = length-append P (nodeBytes endKind [] [] 0) in
+        let y = length-node severalKind [] [] (length ps) in
+        let r = length-node endKind [] [] 0 in
         let n = w .nodes in
         let j = node-lengths x ps in
         let C : plan.CacheableCommand = plan.multiple (severalName (v .json)) ps (pathIn s v) x in

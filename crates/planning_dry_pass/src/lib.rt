@@ -1,5 +1,5 @@
 // The dry pass of planning: whether what planning writes fits its two buffers, found by peeking, before anything is written or looked up.
-// specs/Size.antt measures a command, specs/Room.antt counts the room down; planning_outcome says what is written for each command.
+// specs/Size.antt measures a command, crate room counts the room down; planning_outcome says what is written for each command.
 use command_key::CommandKey;
 use config::Now;
 use config::Settings;
@@ -8,6 +8,7 @@ use cursor::Head;
 use cursor::Range;
 use planning_ask::Asked;
 use planning_ask::Several;
+use room::Room;
 use shard_lookup::Looked;
 ghost use mathlib.Core.Path.{_≡_};
 ghost use mathlib.Core.Bool.{_||_};
@@ -24,37 +25,14 @@ ghost use Rattle.planning_ask.specs.Asked.{SeveralIn};
 ghost use Rattle.sharded_lru.specs.Lent.{setupNow, Lent, Arena};
 ghost use Rattle.planning_outcome.specs.Result.{placeOn, severalItem, PlaceTold};
 ghost use Rattle.planning_outcome.specs.Sizes.{allNodes, allSent};
-ghost use Rattle.planning_dry_pass.specs.Room.{spent};
+ghost use Rattle.room.specs.Room.{spent};
 ghost use Rattle.planning_dry_pass.specs.Size.{SizedAs};
 ghost use Rattle.planning_dry_pass.specs.Dry.{Planable, One, SizeIs};
-
-// What room is left in a buffer; or it was short.
-pub struct Room {
-    pub left: usize,
-    pub short: bool,
-}
 
 // The bytes that a command takes in the plan and in what is sent.
 pub struct Size {
     pub plan: usize,
     pub send: usize,
-}
-
-// The room that is left once n bytes more are taken.
-pub fn spend(room: Room, n: usize) -> Room
-    ensures { λ r. ⌜ r ≡ spent room n ⌝ }
-{
-    if n <= room.left {
-        Room {
-            left: room.left - n,
-            short: room.short,
-        }
-    } else {
-        Room {
-            left: 0,
-            short: true,
-        }
-    }
 }
 
 // The bytes that a command takes whose reply is handed on: a node, and the command itself.
@@ -63,7 +41,7 @@ fn size_own(bytes: &[u8], head: Head) -> Size
     ensures { λ r. ⌜ ((m : CacheMode) → SizedAs m (commandOf (now (bytes .entry)) head) ignored r × SizedAs m (commandOf (now (bytes .entry)) head) (item notCacheable) r) ⌝ }
 {
     Size {
-        plan: plan_write::NODE_HEAD,
+        plan: planning::NODE_HEAD,
         send: planning_send_len::own_len(bytes, head),
     }
 }
@@ -88,7 +66,7 @@ fn size_one(bytes: &[u8], head: Head, key: Range, arena: &[u8], g: Settings, whe
     let args = head.args;
     match peek_one(bytes, head, key, arena, g, when) {
         Looked::Hit { from, to } => Size {
-            plan: plan_write::NODE_HEAD + (to - from),
+            plan: planning::NODE_HEAD + (to - from),
             send: 0,
         },
         Looked::Miss(_) => {
@@ -111,12 +89,12 @@ fn size_several(bytes: &[u8], v: Several, arena: &[u8], g: Settings, when: Now) 
     let m = planning_places::measure(bytes, v, arena, g, when);
     if m.missing == 0 {
         Size {
-            plan: plan_write::NODE_HEAD + m.nodes,
+            plan: planning::NODE_HEAD + m.nodes,
             send: 0,
         }
     } else {
         Size {
-            plan: 2 * plan_write::NODE_HEAD + m.nodes,
+            plan: 2 * planning::NODE_HEAD + m.nodes,
             send: planning_send_len::opt_in_len(mode) + planning_send_len::several_len(bytes, v, m),
         }
     }
@@ -155,8 +133,8 @@ pub fn dry_pass(
     while left > 0 {
         let head = cursor::head_at(bytes, at);
         let size = size_of(bytes, head, arena, g, when);
-        p = spend(p, size.plan);
-        q = spend(q, size.send);
+        p = room::spend(p, size.plan);
+        q = room::spend(q, size.send);
         at = cursor::args_end(bytes, head.args);
         left -= 1;
     }

@@ -1,6 +1,6 @@
 -- Lookups in order, on the arena and the counts: what they make of the book that these hold. Assumes nothing.
 -- Letters: g settings, t clock, e epoch, a the arena's bytes, n the counts, w a key with its command key, s the record's bytes, v several keys.
-use mathlib.Core.Path.{_≡_, refl, sym, ap, _∙_, subst}
+use mathlib.Core.Path.{_≡_, refl, sym, ap, ap₂, _∙_, subst}
 use mathlib.Core.List.{List, [], _∷_}
 use Prim.Native.Nat.{ℕ, suc, _+_, _≤_}
 use native.Mathlib.Omega.{arith}
@@ -8,37 +8,21 @@ use native.Mathlib.Numerals.{add-one}
 use lib.ListN.{length, take}
 use Rattle.buffer.specs.Same.{Bytes}
 use Rattle.config.specs.declared.Settings.{Settings}
-use Rattle.statistics.specs.Counts.{moreHit, moreMiss, moreInvalidate}
+use Rattle.statistics.specs.OfBook.{countsOf, adding, adding-counts}
 use Rattle.statistics.specs.declared.Statistics.{Statistics}
 use Rattle.call_record.specs.Record.{Command}
 use Rattle.cursor.specs.At.{rangeBytes, ArgsHere}
 use Rattle.cursor.specs.declared.Args.{Args}
-use Rattle.book.specs.Book.{Book, Row, Counts, Effect, Keyed, lookup, on, count, put, effect, after, afterAll}
+use Rattle.book.specs.Book.{Book, Row, Effect, Keyed, lookup, on, count, put, effect, after, afterAll}
 use Rattle.book.specs.Calls.{Wanted, lookups, ons}
 use Rattle.planning.specs.Ask as asks
 use Rattle.planning.specs.Outcome.{wholeKey, partKey, partKeys, wants}
-use Rattle.shard_lookup.specs.Looked.{Told}
+use Rattle.shard_lookup.specs.Looked.{addsBy, Told, told-adds}
 use Rattle.shard_lookup.specs.declared.Looked.{Looked}
-use Rattle.shard_lookup.specs.declared.Looked.the-variants.{Hit, Miss}
 use Rattle.sharded_lru.specs.Lent.{setupNow, Lent, Arena, effectIn, rowsAfter}
 use Rattle.planning_ask.specs.Asked.{simplesOf, severalName, pathIn, keysIn, wantedIn, SeveralIn, KeyStep}
 use Rattle.planning_ask.specs.declared.KeyAt.{KeyAt}
 use Rattle.planning_ask.specs.declared.Several.{Several}
-
--- ---- the counts
-
--- as the book has them
-abbrev pub countsOf : Statistics → Counts
-countsOf n = record { hits = n .hit; misses = n .miss; invalidates = n .invalidate }
-
--- with so many more of each, wrapping: the book's `count`
-abbrev pub moreOf : Statistics → ℕ → ℕ → ℕ → Statistics
-moreOf n hits misses invalidates = moreInvalidate (moreMiss (moreHit n hits) misses) invalidates
-
--- after a lookup that was answered so: a hit more, or a miss and the entries dropped
-abbrev pub countedBy : Statistics → Looked → Statistics
-countedBy n (Hit from to) = moreOf n 1 0 0
-countedBy n (Miss x) = moreOf n 0 1 x
 
 -- ---- lookups
 
@@ -65,19 +49,17 @@ module _ (g : Settings) (t e : ℕ) where
 
   -- one, by what was answered
   counted : (f : Effect) (a : Bytes) (n : Statistics) (bk : Book) (r : Looked) → countsOf n ≡ bk .counts → Told a f r
-      → countsOf (countedBy n r) ≡ count (bk .counts) (f .adds)
-  unfolding count
-  counted f a n bk (Hit from to) q h = rw (h .3, sym q)
-  counted f a n bk (Miss x) q h = rw (h .1, sym q)
+      → countsOf (adding n (addsBy r)) ≡ count (bk .counts) (f .adds)
+  counted f a n bk r q h = adding-counts n (addsBy r) ∙ ap₂ count q (sym (told-adds a f r h))
 
-  told : (q : Keyed) (a a′ : Bytes) (n n′ : Statistics) (r : Looked) (bk : Book) → n′ ≡ countedBy n r
+  told : (q : Keyed) (a a′ : Bytes) (n n′ : Statistics) (r : Looked) (bk : Book) → n′ ≡ adding n (addsBy r)
       → Lent g a′ (rowsAfter (setupNow g) (on q) (bk .rows)) × Told a′ (effectIn (setupNow g) q (bk .rows)) r
       → Keeps g a n bk → Keeps g a′ n′ (after (setupNow g) (on q) bk)
   unfolding after put effect rowsAfter
   told q a a′ n n′ r bk z h b =
       record { rows = h .0; counts = ap countsOf z ∙ counted (effectIn (setupNow g) q (bk .rows)) a′ n bk r (b .counts) (h .1) }
 
-  pub looks-one : (w : Wanted) (k c a a′ : Bytes) (n n′ : Statistics) (r : Looked) → w .key ≡ k → w .command ≡ c → n′ ≡ countedBy n r
+  pub looks-one : (w : Wanted) (k c a a′ : Bytes) (n n′ : Statistics) (r : Looked) → w .key ≡ k → w .command ≡ c → n′ ≡ adding n (addsBy r)
       → ((rows : ℕ → Row) → Lent g a rows → Lent g a′ (rowsAfter (setupNow g) (on (lookup k c t e)) rows)
       × Told a′ (effectIn (setupNow g) (lookup k c t e) rows) r)
       → Looks g t e (w ∷ []) a n a′ n′

@@ -10,24 +10,7 @@ ghost use Rattle.cursor.specs.At.{rangeBytes, RangeIn};
 ghost use Rattle.command_key.specs.Key.{keyBytes, KeyIn};
 ghost use Rattle.book.specs.Calls.{Wanted};
 ghost use Rattle.sharded_lru.specs.Lent.{Arena};
-ghost use Rattle.planning_look_up.specs.Looks.{countedBy};
 ghost use Rattle.planning_look_up.specs.Finds.{Finds};
-
-// The counts after a lookup that was answered so.
-pub fn counted(counts: Statistics, looked: Looked) -> Statistics
-    ensures { λ r. ⌜ r ≡ countedBy counts looked ⌝ }
-{
-    match looked {
-        Looked::Hit { from: _, to: _ } => counts
-            .increase_hit(1)
-            .increase_miss(0)
-            .increase_invalidate(0),
-        Looked::Miss(n) => counts
-            .increase_hit(0)
-            .increase_miss(1)
-            .increase_invalidate(n as u64),
-    }
-}
 
 // What a lookup found, and the counts after it.
 pub struct Found {
@@ -52,6 +35,6 @@ pub fn look_up_key(
     let looked = sharded_lru::get(arena, g, text, bytes, command, when);
     Found {
         looked: looked,
-        counts: counted(counts, looked),
+        counts: shard_lookup::counted(counts, looked),
     }
 }

@@ -22,7 +22,7 @@ use Rattle.cmd.specs.Laws.{Wrote}
 use Rattle.book.specs.Book.{Row}
 use Rattle.book.specs.Calls.{Wanted}
 use Rattle.planning.specs.Outcome.{Place, filled, waiting, missing, partKey}
-use Rattle.planning.specs.Plan.{placeNodes, nodeBytes, encNode}
+use Rattle.planning.specs.Plan.{placeNodes, nodeBytes, encNode, servedKind, waitingKind}
 use Rattle.statistics.specs.declared.Statistics.{Statistics}
 use Rattle.plan_write.specs.Pieces.{range-short, key-bound}
 use Rattle.plan_write.specs.Wrote.{wrote-is}
@@ -31,11 +31,12 @@ use Rattle.planning_ask.specs.Keys.{part-key}
 use Rattle.planning_ask.specs.declared.KeyAt.{KeyAt}
 use Rattle.planning_ask.specs.declared.Several.{Several}
 use Rattle.shard_lookup.specs.declared.Looked.the-variants.{Hit, Miss}
+use Rattle.sharded_lru.specs.Laws.{lent-same}
 use Rattle.sharded_lru.specs.Lent.{setupNow, Lent, Arena}
 use Rattle.planning_outcome.specs.Result.{placeOn}
 use Rattle.planning_outcome.specs.Places.{told-hit, told-miss}
 use Rattle.planning_look_up.specs.Looks.{Looks, looks-arena, Turn, turn-start, turn-next, turn-end}
-use Rattle.planning_look_up.specs.Finds.{Finds, lent-same, place-steady}
+use Rattle.planning_look_up.specs.Finds.{Finds, place-steady}
 use Rattle.planning_look_up.specs.declared.Found.{Found}
 use Rattle.planning_places.specs.Pieces.{wantAt, placeAt, placesNow}
 use Rattle.planning_places.specs.Steps.{placesFrom, places-none, places-more}
@@ -46,14 +47,14 @@ use Rattle.planning_nodes.specs.declared.Written.{Written}
 -- ---- one place's node
 
 unfoldable pub placeNode : ℕ → Place → Bytes
-placeNode x (filled b) = nodeBytes 1 b [] 0
-placeNode x (waiting w) = nodeBytes 5 (w .key) (w .command) x
+placeNode x (filled b) = nodeBytes servedKind b [] 0
+placeNode x (waiting w) = nodeBytes waitingKind (w .key) (w .command) x
 
-pub node-filled : (x : ℕ) (q : Place) (b : Bytes) → q ≡ filled b → placeNode x q ≡ nodeBytes 1 b [] 0
+pub node-filled : (x : ℕ) (q : Place) (b : Bytes) → q ≡ filled b → placeNode x q ≡ nodeBytes servedKind b [] 0
 unfolding placeNode
 node-filled x q b e = rw e
 
-pub node-waiting : (x : ℕ) (q : Place) (w : Wanted) (k c : Bytes) → q ≡ waiting w → k ≡ w .key → w .command ≡ c → placeNode x q ≡ nodeBytes 5 k c x
+pub node-waiting : (x : ℕ) (q : Place) (w : Wanted) (k c : Bytes) → q ≡ waiting w → k ≡ w .key → w .command ≡ c → placeNode x q ≡ nodeBytes waitingKind k c x
 unfolding placeNode
 node-waiting x q w k c e i j = rw (e, i, j)
 
@@ -106,7 +107,8 @@ found-miss g t e w a n a₁ f h m q rows o = told-miss a₁ w (placeOn (setupNow
 module _ (g : Settings) (t e x : ℕ) (w : Wanted) (a d : Bytes) (y : Written) (a₁ d₁ : Bytes) (f : Found) (h : Finds g t e w a (y .counts) a₁ f) (to : ℕ) where
   -- it is served
   pub placed-hit : (from end : ℕ) → Served g t e w a a₁ from end
-      → (to ≡ y .to + length (nodeBytes 1 (part a₁ from (end - from)) [] 0)) × (d₁ ≡ put d (y .to) (nodeBytes 1 (part a₁ from (end - from)) [] 0))
+      → (to ≡ y .to + length (nodeBytes servedKind (part a₁ from (end - from)) [] 0))
+      × (d₁ ≡ put d (y .to) (nodeBytes servedKind (part a₁ from (end - from)) [] 0))
       → Placed g t e x w a d y a₁ d₁ (record { to = to; missing = y .missing; counts = f .counts })
   unfolding missing FitsPlace
   placed-hit from end k v =
@@ -120,7 +122,7 @@ module _ (g : Settings) (t e x : ℕ) (w : Wanted) (a d : Bytes) (y : Written) (
 
   -- it waits
   pub placed-miss : (n : ℕ) (k c : Bytes) → f .looked ≡ Miss n → k ≡ w .key → w .command ≡ c → (length (w .key) < 2 ^ 32) × (length (w .command) < 2 ^ 32)
-      → (to ≡ y .to + length (nodeBytes 5 k c x)) × (d₁ ≡ put d (y .to) (nodeBytes 5 k c x))
+      → (to ≡ y .to + length (nodeBytes waitingKind k c x)) × (d₁ ≡ put d (y .to) (nodeBytes waitingKind k c x))
       → Placed g t e x w a d y a₁ d₁ (record { to = to; missing = y .missing + 1; counts = f .counts })
   unfolding missing FitsPlace
   placed-miss n k c q i j l v =

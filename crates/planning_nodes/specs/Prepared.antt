@@ -29,7 +29,7 @@ use Rattle.planning.specs.Outcome as plan
 use Rattle.planning.specs.Outcome.{Place, missing, item, singleItem, multipleItem, wholeKey, partKeys}
 use Rattle.planning.specs.Sent.{keysOf}
 use Rattle.planning.specs.Small.{parts-count}
-use Rattle.planning.specs.Plan.{placeNodes, nodeBytes, encNode}
+use Rattle.planning.specs.Plan.{placeNodes, nodeBytes, encNode, handOnKind, servedKind, allServedKind, missingKind, severalKind, endKind}
 use Rattle.plan_write.specs.Pieces.{length-node}
 use Rattle.plan_write.specs.Wrote.{wrote-is, wrote-as, wrote-both, wrote-long}
 use Rattle.planning_ask.specs.Asked.{severalName, pathIn, keysIn, SeveralIn}
@@ -92,23 +92,23 @@ module _ (x : ℕ) (ps : List Place) (n : Bytes) (path : List Bytes) where
   abbrev outcomeOf : plan.CachingResult
   outcomeOf = item (multipleItem (missing ps) n ps path x)
 
-  pub nodes-served : length (missing ps) ≡ 0 → nodesAs outcomeOf ≡ nodeBytes 2 [] [] (length ps) ++ P
+  pub nodes-served : length (missing ps) ≡ 0 → nodesAs outcomeOf ≡ nodeBytes allServedKind [] [] (length ps) ++ P
   nodes-served q = ap (λ (z : plan.PrepCacheItem). nodesAs (item z)) (item-served ps n path x q) ∙ nodes-values x ps q
 
-  pub nodes-missing : (length (missing ps) ≡ 0 → ⊥) → nodesAs outcomeOf ≡ nodeBytes 4 [] [] (length ps) ++ (P ++ nodeBytes 6 [] [] 0)
+  pub nodes-missing : (length (missing ps) ≡ 0 → ⊥) → nodesAs outcomeOf ≡ nodeBytes severalKind [] [] (length ps) ++ (P ++ nodeBytes endKind [] [] 0)
   nodes-missing q = ap (λ (z : plan.PrepCacheItem). nodesAs (item z)) (item-missing ps n path x q) ∙ nodes-multiple n ps path x
 
   -- so there is room for a head and the places, whether any waits or not
   pub several-least : 20 + length P ≤ length (nodesAs outcomeOf)
   several-least =
       byTest (eqb (length (missing ps)) 0)
-      (λ b. let l = ap length (nodes-served (eqb-true _ _ b)) ∙ length-append (nodeBytes 2 [] [] (length ps)) P in
-      let k = length-node 2 [] [] (length ps) in omega arith)
+      (λ b. let l = ap length (nodes-served (eqb-true _ _ b)) ∙ length-append (nodeBytes allServedKind [] [] (length ps)) P in
+      let k = length-node allServedKind [] [] (length ps) in omega arith)
       (λ b.
-      let l = ap length (nodes-missing (eqb-false _ _ b)) ∙ length-append (nodeBytes 4 [] [] (length ps)) (P ++ nodeBytes 6 [] [] 0) in
-      let j = length-append P (nodeBytes 6 [] [] 0) in
-      let k = length-node 4 [] [] (length ps) in
-      let i = length-node 6 [] [] 0 in
+      let l = ap length (nodes-missing (eqb-false _ _ b)) ∙ length-append (nodeBytes severalKind [] [] (length ps)) (P ++ nodeBytes endKind [] [] 0) in
+      let j = length-append P (nodeBytes endKind [] [] 0) in
+      let k = length-node severalKind [] [] (length ps) in
+      let i = length-node endKind [] [] 0 in
       omega arith)
 
   module _ (d d₁ d₂ : Bytes) (to e : ℕ) (r : to + length (nodesAs outcomeOf) ≤ length d) (w : Wrote d (to + 20) P d₁ e) where
@@ -126,38 +126,38 @@ module _ (x : ℕ) (ps : List Place) (n : Bytes) (path : List Bytes) where
         }
 
     -- none waits
-    pub served-wrote : length (missing ps) ≡ 0 → d₂ ≡ put d₁ to (nodeBytes 2 [] [] (length ps)) → Wrote d to (nodesAs outcomeOf) d₂ e
-    served-wrote q u = wrote-as d d₂ _ _ to e (nodes-served q) (head-put 2 u)
+    pub served-wrote : length (missing ps) ≡ 0 → d₂ ≡ put d₁ to (nodeBytes allServedKind [] [] (length ps)) → Wrote d to (nodesAs outcomeOf) d₂ e
+    served-wrote q u = wrote-as d d₂ _ _ to e (nodes-served q) (head-put allServedKind u)
 
     -- some wait: with their end
-    module _ (q : length (missing ps) ≡ 0 → ⊥) (u : d₂ ≡ put d₁ to (nodeBytes 4 [] [] (length ps))) where
+    module _ (q : length (missing ps) ≡ 0 → ⊥) (u : d₂ ≡ put d₁ to (nodeBytes severalKind [] [] (length ps))) where
       abbrev H : Bytes
-      H = nodeBytes 4 [] [] (length ps)
+      H = nodeBytes severalKind [] [] (length ps)
 
-      assoc : nodesAs outcomeOf ≡ (H ++ P) ++ nodeBytes 6 [] [] 0
-      assoc = nodes-missing q ∙ sym (append-assoc H P (nodeBytes 6 [] [] 0))
+      assoc : nodesAs outcomeOf ≡ (H ++ P) ++ nodeBytes endKind [] [] 0
+      assoc = nodes-missing q ∙ sym (append-assoc H P (nodeBytes endKind [] [] 0))
 
-      pub end-room : e + length (nodeBytes 6 [] [] 0) ≤ length d₂
+      pub end-room : e + length (nodeBytes endKind [] [] 0) ≤ length d₂
       end-room =
-          let l = ap length assoc ∙ length-append (H ++ P) (nodeBytes 6 [] [] 0) in
-          let h = head-put 4 u in
+          let l = ap length assoc ∙ length-append (H ++ P) (nodeBytes endKind [] [] 0) in
+          let h = head-put severalKind u in
           let k = wrote-long d d₂ (H ++ P) to e (omega arith) h in
           let f = h .ends in
           omega arith
 
-      pub missing-wrote : (d₃ : Bytes) (f : ℕ) → Wrote d₂ e (nodeBytes 6 [] [] 0) d₃ f → Wrote d to (nodesAs outcomeOf) d₃ f
-      missing-wrote d₃ f y = wrote-both d d₂ d₃ _ (H ++ P) (nodeBytes 6 [] [] 0) to e f assoc r (head-put 4 u) y
+      pub missing-wrote : (d₃ : Bytes) (f : ℕ) → Wrote d₂ e (nodeBytes endKind [] [] 0) d₃ f → Wrote d to (nodesAs outcomeOf) d₃ f
+      missing-wrote d₃ f y = wrote-both d d₂ d₃ _ (H ++ P) (nodeBytes endKind [] [] 0) to e f assoc r (head-put severalKind u) y
 
       -- the keys that wait are read from the places
-      pub missing-held : (d₃ : Bytes) (f k : ℕ) → Wrote d₂ e (nodeBytes 6 [] [] 0) d₃ f → x < 2 ^ 64 → All FitsPlace ps → length ps ≡ k
+      pub missing-held : (d₃ : Bytes) (f k : ℕ) → Wrote d₂ e (nodeBytes endKind [] [] 0) d₃ f → x < 2 ^ 64 → All FitsPlace ps → length ps ≡ k
           → (keysAt d₃ (Nodes (to + 20)) k ≡ keysOf (missing ps)) × KeysIn d₃ (Nodes (to + 20)) k
       unfolding keysAt KeysIn
       missing-held d₃ f k y h fits l =
           let b = missing-wrote d₃ f y in
-          let z : drop (to + 20) d₃ ≡ (P ++ nodeBytes 6 [] [] 0) ++ drop (to + length (H ++ (P ++ nodeBytes 6 [] [] 0))) d =
+          let z : drop (to + 20) d₃ ≡ (P ++ nodeBytes endKind [] [] 0) ++ drop (to + length (H ++ (P ++ nodeBytes endKind [] [] 0))) d =
           ap (drop (to + 20)) (b .is ∙ ap (put d to) (nodes-missing q))
-          ∙ drop-put d H (P ++ nodeBytes 6 [] [] 0) to 20 (length-node 4 [] [] (length ps)) (omega arith) in
-          rw (← l) (keys-held d₃ x h ps (to + 20) _ fits (z ∙ append-assoc P (nodeBytes 6 [] [] 0) _))
+          ∙ drop-put d H (P ++ nodeBytes endKind [] [] 0) to 20 (length-node severalKind [] [] (length ps)) (omega arith) in
+          rw (← l) (keys-held d₃ x h ps (to + 20) _ fits (z ∙ append-assoc P (nodeBytes endKind [] [] 0) _))
 
 module _ (g : Settings) (rows : ℕ → Row) (t e x : ℕ) (s : Bytes) (v : Several) (i : SeveralIn s v) (a d d₁ d₂ : Bytes) (to e₁ m : ℕ) (n : Statistics)
     (r : to + length (nodesAs (item (severalItem (setupNow g) rows t e s v x))) ≤ length d)
@@ -170,7 +170,7 @@ module _ (g : Settings) (rows : ℕ → Row) (t e x : ℕ) (s : Bytes) (v : Seve
   head-is kind u = u ∙ ap (λ (z : ℕ). put d₁ to (nodeBytes kind [] [] z)) (sym (keys-count g rows t e s v i))
 
   -- none waits
-  pub prepares-served : (c : Command) → m ≡ 0 → d₂ ≡ put d₁ to (nodeBytes 2 [] [] (v .keys))
+  pub prepares-served : (c : Command) → m ≡ 0 → d₂ ≡ put d₁ to (nodeBytes allServedKind [] [] (v .keys))
       → Prepares g rows t e s a d to d₂ c (item (severalItem (setupNow g) rows t e s v x))
       (record { result = Item (Cached (Values v)); places = to + 20; to = e₁; counts = n })
   prepares-served c q u =
@@ -182,17 +182,17 @@ module _ (g : Settings) (rows : ℕ → Row) (t e x : ℕ) (s : Bytes) (v : Seve
       }
 
   -- some wait
-  module _ (q : m ≡ 0 → ⊥) (u : d₂ ≡ put d₁ to (nodeBytes 4 [] [] (v .keys))) where
-    pub prepares-room : e₁ + length (nodeBytes 6 [] [] 0) ≤ length d₂
+  module _ (q : m ≡ 0 → ⊥) (u : d₂ ≡ put d₁ to (nodeBytes severalKind [] [] (v .keys))) where
+    pub prepares-room : e₁ + length (nodeBytes endKind [] [] 0) ≤ length d₂
     prepares-room = end-room x ps (severalName (v .json)) (pathIn s v) d d₁ d₂ to e₁ r w (λ z. q (k ∙ z)) (head-is 4 u)
 
-    pub prepares-missing : (c : Command) (d₃ : Bytes) (f : ℕ) → (f ≡ e₁ + length (nodeBytes 6 [] [] 0)) × (d₃ ≡ put d₂ e₁ (nodeBytes 6 [] [] 0))
+    pub prepares-missing : (c : Command) (d₃ : Bytes) (f : ℕ) → (f ≡ e₁ + length (nodeBytes endKind [] [] 0)) × (d₃ ≡ put d₂ e₁ (nodeBytes endKind [] [] 0))
         → x < 2 ^ 64 → All FitsPlace ps
         → Prepares g rows t e s a d to d₃ c (item (severalItem (setupNow g) rows t e s v x))
         (record { result = Item (NotCached (Multiple v m x)); places = to + 20; to = f; counts = n })
     prepares-missing c d₃ f y h fits =
         let z = several-missing (setupNow g) rows t e s a c v i x m k q in
-        let b : Wrote d₂ e₁ (nodeBytes 6 [] [] 0) d₃ f = record { ends = y .0; is = y .1 } in
+        let b : Wrote d₂ e₁ (nodeBytes endKind [] [] 0) d₃ f = record { ends = y .0; is = y .1 } in
         record {
           tells = record { is = ap item (z .is); inside = z .inside };
           wrote = missing-wrote x ps (severalName (v .json)) (pathIn s v) d d₁ d₂ to e₁ r w (λ z. q (k ∙ z)) (head-is 4 u) d₃ f b;
@@ -216,18 +216,18 @@ module _ (g : Settings) (rows : ℕ → Row) (t e x : ℕ) (s : Bytes) (h : Head
   abbrev Q : Place
   Q = placeOn (setupNow g) rows t e W
 
-  pub one-filled : (b : Bytes) → Q ≡ plan.filled b → nodesAs (item (singleItem Q x)) ≡ nodeBytes 1 b [] 0
+  pub one-filled : (b : Bytes) → Q ≡ plan.filled b → nodesAs (item (singleItem Q x)) ≡ nodeBytes servedKind b [] 0
   unfolding singleItem
   one-filled b q = rw q (nodes-value b)
 
   pub one-waiting : (k y : Bytes) → Q ≡ plan.waiting W → k ≡ rangeBytes s key → y ≡ keyBytes s (Joined (h .args))
-      → nodesAs (item (singleItem Q x)) ≡ nodeBytes 3 k y x
+      → nodesAs (item (singleItem Q x)) ≡ nodeBytes missingKind k y x
   unfolding singleItem wholeKey
-  one-waiting k y q i j = rw (q, i, j) (nodes-single W x ∙ ap (λ (z : Bytes). nodeBytes 3 (rangeBytes s key) z x) (whole-key s h (rangeBytes s key)))
+  one-waiting k y q i j = rw (q, i, j) (nodes-single W x ∙ ap (λ (z : Bytes). nodeBytes missingKind (rangeBytes s key) z x) (whole-key s h (rangeBytes s key)))
 
   module _ (a d : Bytes) (to : ℕ) (d₁ : Bytes) (e₁ : ℕ) (n : Statistics) where
     pub prepares-hit : (from end : ℕ) → from ≤ end → end ≤ length a → Q ≡ plan.filled (part a from (end - from))
-        → (e₁ ≡ to + length (nodeBytes 1 (part a from (end - from)) [] 0)) × (d₁ ≡ put d to (nodeBytes 1 (part a from (end - from)) [] 0))
+        → (e₁ ≡ to + length (nodeBytes servedKind (part a from (end - from)) [] 0)) × (d₁ ≡ put d to (nodeBytes servedKind (part a from (end - from)) [] 0))
         → Prepares g rows t e s a d to d₁ (commandOf s h) (item (singleItem Q x))
         (record { result = Item (Cached (Value (record { start = from; end = end }))); places = to; to = e₁; counts = n })
     prepares-hit from end i j q w =
@@ -235,7 +235,7 @@ module _ (g : Settings) (rows : ℕ → Row) (t e x : ℕ) (s : Bytes) (h : Head
         record { tells = record { is = ap item (z .is); inside = z .inside }; wrote = wrote-is d d₁ _ _ to e₁ (one-filled _ q) w; holds = tt }
 
     pub prepares-miss : (m : ℕ) (k y : Bytes) → RangeIn s key → Q ≡ plan.waiting W → k ≡ rangeBytes s key → y ≡ keyBytes s (Joined (h .args))
-        → (e₁ ≡ to + length (nodeBytes 3 k y x)) × (d₁ ≡ put d to (nodeBytes 3 k y x))
+        → (e₁ ≡ to + length (nodeBytes missingKind k y x)) × (d₁ ≡ put d to (nodeBytes missingKind k y x))
         → Prepares g rows t e s a d to d₁ (commandOf s h) (item (singleItem Q x))
         (record { result = Item (NotCached (Single key x)); places = to; to = e₁; counts = n })
     prepares-miss m k y i q p j w =
@@ -245,7 +245,7 @@ module _ (g : Settings) (rows : ℕ → Row) (t e x : ℕ) (s : Bytes) (h : Head
 -- ---- a reply that is handed on
 
 module _ (g : Settings) (rows : ℕ → Row) (t e : ℕ) (s a d : Bytes) (to : ℕ) (d₁ : Bytes) (c : Command) (e₁ : ℕ) (n : Statistics)
-    (w : (e₁ ≡ to + length (nodeBytes 0 [] [] 0)) × (d₁ ≡ put d to (nodeBytes 0 [] [] 0))) where
+    (w : (e₁ ≡ to + length (nodeBytes handOnKind [] [] 0)) × (d₁ ≡ put d to (nodeBytes handOnKind [] [] 0))) where
   pub prepares-ignored : Prepares g rows t e s a d to d₁ c plan.ignored (record { result = Ignored; places = to; to = e₁; counts = n })
   prepares-ignored = record { tells = record { is = refl; inside = tt }; wrote = wrote-is d d₁ _ _ to e₁ nodes-ignored w; holds = tt }
 

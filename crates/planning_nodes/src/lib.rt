@@ -5,6 +5,9 @@ use config::Now;
 use config::Settings;
 use cursor::Head;
 use cursor::Range;
+use plan_write::write_missing;
+use planning::NODE_MISSING;
+use planning::NODE_WAITING;
 use planning_ask::Asked;
 use planning_ask::Several;
 use planning_outcome::CacheableCommand;
@@ -78,7 +81,7 @@ fn write_place(
         Looked::Miss(_) => {
             let text = cursor::bytes_in(bytes, key);
             Written {
-                to: plan_write::write_missing(plan, x.to, 5, text, bytes, command, expiry),
+                to: write_missing(plan, x.to, NODE_WAITING, text, bytes, command, expiry),
                 missing: x.missing + 1,
                 counts: counts,
             }
@@ -128,7 +131,7 @@ fn write_several(
     requires { ⌜ SeveralIn (now bytes) v × (length (now bytes) ≤ maxBytes) × Arena g (now arena) × ((rows : ℕ → Row) → Lent g (now arena) rows → to + length (nodesAs (item (severalItem (setupNow g) rows (when .clock) (when .epoch) (now bytes) v expiry))) ≤ length (now plan)) ⌝ }
     ensures { λ r. ⌜ Looks g (when .clock) (when .epoch) (wantedIn (now (bytes .entry)) v) (now (arena .entry)) counts (now (arena .exit)) (r .counts) × ((rows : ℕ → Row) → Lent g (now (arena .entry)) rows → (c : Command) → Prepares g rows (when .clock) (when .epoch) (now (bytes .entry)) (now (arena .exit)) (now (plan .entry)) to (now (plan .exit)) c (item (severalItem (setupNow g) rows (when .clock) (when .epoch) (now (bytes .entry)) v expiry)) r) ⌝ }
 {
-    let start = to + plan_write::NODE_HEAD;
+    let start = to + planning::NODE_HEAD;
     let first = Written {
         to: start,
         missing: 0,
@@ -137,7 +140,7 @@ fn write_several(
     let x = write_places(plan, arena, bytes, v, expiry, g, when, first);
     let after = x.counts;
     if x.missing == 0 {
-        plan_write::write_bare(plan, to, 2, v.keys as u64);
+        plan_write::write_bare(plan, to, planning::NODE_ALL_SERVED, v.keys as u64);
         Prepared {
             result: CachingResult::Item(PrepCacheItem::Cached(Served::Values(v))),
             places: start,
@@ -145,8 +148,8 @@ fn write_several(
             counts: after,
         }
     } else {
-        plan_write::write_bare(plan, to, 4, v.keys as u64);
-        let end = plan_write::write_bare(plan, x.to, 6, 0);
+        plan_write::write_bare(plan, to, planning::NODE_SEVERAL, v.keys as u64);
+        let end = plan_write::write_bare(plan, x.to, planning::NODE_END, 0);
         Prepared {
             result: CachingResult::Item(PrepCacheItem::NotCached(CacheableCommand::Multiple(
                 v,
@@ -202,7 +205,7 @@ fn write_one(
                     expiry,
                 ))),
                 places: to,
-                to: plan_write::write_missing(plan, to, 3, text, bytes, command, expiry),
+                to: write_missing(plan, to, NODE_MISSING, text, bytes, command, expiry),
                 counts: after,
             }
         }
@@ -227,13 +230,13 @@ pub fn get_cached_cmd(
         Asked::Nothing => Prepared {
             result: CachingResult::Ignored,
             places: to,
-            to: plan_write::write_bare(plan, to, 0, 0),
+            to: plan_write::write_bare(plan, to, planning::NODE_HAND_ON, 0),
             counts: counts,
         },
         Asked::Uncacheable => Prepared {
             result: CachingResult::Item(PrepCacheItem::NotCacheable),
             places: to,
-            to: plan_write::write_bare(plan, to, 0, 0),
+            to: plan_write::write_bare(plan, to, planning::NODE_HAND_ON, 0),
             counts: counts,
         },
         Asked::OneKey(key, expiry) => write_one(

@@ -11,6 +11,7 @@ use Rattle.book.specs.Calls.{Wanted}
 use Rattle.planning.specs.Outcome.{Place, filled, waiting, missing, servedValues, value, values, single, multiple, cached, notCached, notCacheable}
 use Rattle.planning.specs.Outcome.{CachingResult, item, ignored}
 use Rattle.planning.specs.Plan.{Node, endOfSeveral, valueNodes, placeNodes, servedNodes, missingNodes, nodesOf, nodeBytes, encNode}
+use Rattle.planning.specs.Plan.{handOnKind, servedKind, allServedKind, missingKind, severalKind, endKind}
 use Rattle.planning_outcome.specs.Joined.{encAll-append}
 
 -- an outcome's nodes
@@ -19,21 +20,21 @@ nodesAs o = encAll encNode (nodesOf o)
 
 -- ---- a reply that is handed on, and one key
 
-pub nodes-ignored : nodesAs ignored ≡ nodeBytes 0 [] [] 0
+pub nodes-ignored : nodesAs ignored ≡ nodeBytes handOnKind [] [] 0
 unfolding nodesOf encNode
-nodes-ignored = append-nil (nodeBytes 0 [] [] 0)
+nodes-ignored = append-nil (nodeBytes handOnKind [] [] 0)
 
-pub nodes-not-cacheable : nodesAs (item notCacheable) ≡ nodeBytes 0 [] [] 0
+pub nodes-not-cacheable : nodesAs (item notCacheable) ≡ nodeBytes handOnKind [] [] 0
 unfolding nodesOf encNode
-nodes-not-cacheable = append-nil (nodeBytes 0 [] [] 0)
+nodes-not-cacheable = append-nil (nodeBytes handOnKind [] [] 0)
 
-pub nodes-value : (v : Bytes) → nodesAs (item (cached (value v))) ≡ nodeBytes 1 v [] 0
+pub nodes-value : (v : Bytes) → nodesAs (item (cached (value v))) ≡ nodeBytes servedKind v [] 0
 unfolding nodesOf servedNodes encNode
-nodes-value v = append-nil (nodeBytes 1 v [] 0)
+nodes-value v = append-nil (nodeBytes servedKind v [] 0)
 
-pub nodes-single : (w : Wanted) (x : ℕ) → nodesAs (item (notCached (single w x))) ≡ nodeBytes 3 (w .key) (w .command) x
+pub nodes-single : (w : Wanted) (x : ℕ) → nodesAs (item (notCached (single w x))) ≡ nodeBytes missingKind (w .key) (w .command) x
 unfolding nodesOf missingNodes encNode
-nodes-single w x = append-nil (nodeBytes 3 (w .key) (w .command) x)
+nodes-single w x = append-nil (nodeBytes missingKind (w .key) (w .command) x)
 
 -- ---- several keys
 
@@ -46,15 +47,17 @@ all-served x (waiting w ∷ ps) q = absurd (omega arith)
 
 -- none waits: their number and the places, whatever the expiry
 pub nodes-values : (x : ℕ) (ps : List Place) → length (missing ps) ≡ 0
-    → nodesAs (item (cached (values (servedValues ps)))) ≡ nodeBytes 2 [] [] (length ps) ++ encAll encNode (placeNodes x ps)
+    → nodesAs (item (cached (values (servedValues ps)))) ≡ nodeBytes allServedKind [] [] (length ps) ++ encAll encNode (placeNodes x ps)
 unfolding nodesOf servedNodes encNode
 nodes-values x ps q =
-    let z = all-served x ps q in ap₂ (λ (n : ℕ) (l : List Node). nodeBytes 2 [] [] n ++ encAll encNode l) (z .1) (z .0)
+    let z = all-served x ps q in ap₂ (λ (n : ℕ) (l : List Node). nodeBytes allServedKind [] [] n ++ encAll encNode l) (z .1) (z .0)
 
 -- some wait: their number, the places, and their end
 pub nodes-multiple : (n : Bytes) (ps : List Place) (path : List Bytes) (x : ℕ)
-    → nodesAs (item (notCached (multiple n ps path x))) ≡ nodeBytes 4 [] [] (length ps) ++ (encAll encNode (placeNodes x ps) ++ nodeBytes 6 [] [] 0)
+    → nodesAs (item (notCached (multiple n ps path x)))
+    ≡ nodeBytes severalKind [] [] (length ps) ++ (encAll encNode (placeNodes x ps) ++ nodeBytes endKind [] [] 0)
 unfolding nodesOf missingNodes encNode
 nodes-multiple n ps path x =
-    ap (λ (z : Bytes). nodeBytes 4 [] [] (length ps) ++ z)
-    (encAll-append encNode (placeNodes x ps) (endOfSeveral ∷ []) ∙ ap (λ (z : Bytes). encAll encNode (placeNodes x ps) ++ z) (append-nil (nodeBytes 6 [] [] 0)))
+    ap (λ (z : Bytes). nodeBytes severalKind [] [] (length ps) ++ z)
+    (encAll-append encNode (placeNodes x ps) (endOfSeveral ∷ [])
+    ∙ ap (λ (z : Bytes). encAll encNode (placeNodes x ps) ++ z) (append-nil (nodeBytes endKind [] [] 0)))

@@ -23,7 +23,7 @@ use Rattle.book.specs.Book.{Row}
 use Rattle.book.specs.Calls.{Wanted}
 use Rattle.planning.specs.Outcome.{Place, filled, waiting, missing, partKey}
 use Rattle.planning.specs.Sent.{keysOf}
-use Rattle.planning.specs.Plan.{servedValue, waitingPlace, placeNodes, nodeBytes, encNode}
+use Rattle.planning.specs.Plan.{servedValue, waitingPlace, placeNodes, nodeBytes, encNode, servedKind, waitingKind}
 use Rattle.plan_write.specs.Pieces.{length-node, range-short, key-bound}
 use Rattle.sharded_lru.specs.Lent.{Lent}
 use Rattle.planning_ask.specs.Asked.{simplesOf, SeveralIn, KeyStep}
@@ -73,8 +73,8 @@ pub more-filled : (m : Measured) (q : Place) (b : Bytes) (n : ℕ) → q ≡ fil
     → More m q (record { missing = m .missing; nodes = m .nodes + (20 + n); keys = m .keys })
 unfolding missing placeNodes keysOf blobBytes encNode
 more-filled m q b n e l =
-    let i = length-node 1 b [] 0 in
-    let j = length-append (nodeBytes 1 b [] 0) [] in
+    let i = length-node servedKind b [] 0 in
+    let j = length-append (nodeBytes servedKind b [] 0) [] in
     rw e (record { number = omega arith; nodes = omega arith; keys = omega arith })
 
 -- its key and its command key lie inside
@@ -93,8 +93,8 @@ module _ (s : Bytes) (v : Several) (key : Range) (w : SeveralIn s v) (i : RangeI
       let x : length (keyBytes s (Named (v .json) key (v .path))) ≡ length (W .command) = ap length (sym (part-key s v key w)) in
       let y : length t ≡ length (W .key) = ap length p in
       let z : length (digits (length t)) ≡ length (digits (length (W .key))) = ap (λ (k : ℕ). length (digits k)) y in
-      let c = length-node 5 (W .key) (W .command) 0 in
-      let d = length-append (nodeBytes 5 (W .key) (W .command) 0) [] in
+      let c = length-node waitingKind (W .key) (W .command) 0 in
+      let d = length-append (nodeBytes waitingKind (W .key) (W .command) 0) [] in
       let f = blob-length (W .key) in
       let g = length-append (blob (W .key)) [] in
       rw e (record { number = omega arith; nodes = omega arith; keys = omega arith })

@@ -20,7 +20,7 @@ use Rattle.cmd.specs.Pack.{packed, blob, pttlTexts}
 use Rattle.cmd.specs.Laws.{Wrote}
 use Rattle.planning.specs.Outcome.{Place, filled, waiting, missing}
 use Rattle.planning.specs.Sent.{keysOf}
-use Rattle.planning.specs.Plan.{placeNodes, nodeBytes, encNode}
+use Rattle.planning.specs.Plan.{placeNodes, nodeBytes, encNode, servedKind, waitingKind}
 use Rattle.plan.specs.Head.{endAt, headAt, HeadIn}
 use Rattle.plan.specs.Node.{FitsNode}
 use Rattle.plan.specs.There.{kind-there, first-there, second-there, first-part, long-there, rest-there}
@@ -39,7 +39,7 @@ use Rattle.planning_places.specs.declared.PlaceAt.{PlaceAt}
 -- the keys of the nodes that are not a served value's
 unfoldable pub nodeKeys : Bytes → ℕ → ℕ → List Bytes
 nodeKeys s zero at = []
-nodeKeys s (suc n) at = let rest = nodeKeys s n (endAt s at) in cond (eqb (read32 s at) 1) rest (part s (at + 20) (read32 s (at + 4)) ∷ rest)
+nodeKeys s (suc n) at = let rest = nodeKeys s n (endAt s at) in cond (eqb (read32 s at) servedKind) rest (part s (at + 20) (read32 s (at + 4)) ∷ rest)
 
 -- so many nodes stand there, whole
 unfoldable pub NodesIn : Bytes → ℕ → ℕ → Type 0
@@ -66,12 +66,12 @@ pub record Step (s : Bytes) (f : Source) (n : ℕ) (r : PlaceAt) : Type 0 where
 
 -- a node
 pub node-step : (s : Bytes) (f : Source) (at n : ℕ) (h : NodeHead) → f ≡ Nodes at → h ≡ headAt s at → KeysIn s f (suc n)
-    → Step s f n (record { served = eqb (h .kind) 1; key = record { start = h .first; end = h .second }; rest = Nodes (h .end) })
+    → Step s f n (record { served = eqb (h .kind) servedKind; key = record { start = h .first; end = h .second }; rest = Nodes (h .end) })
 unfolding keysAt KeysIn nodeKeys NodesIn headAt
 node-step s f at n h q e w =
     let z : at + 20 + read32 s (at + 4) - (at + 20) ≡ read32 s (at + 4) = omega arith in
     rw (q, e) (record {
-      keys = ap (λ (l : ℕ). cond (eqb (read32 s at) 1) (nodeKeys s n (endAt s at)) (part s (at + 20) l ∷ nodeKeys s n (endAt s at))) (sym z);
+      keys = ap (λ (l : ℕ). cond (eqb (read32 s at) servedKind) (nodeKeys s n (endAt s at)) (part s (at + 20) l ∷ nodeKeys s n (endAt s at))) (sym z);
       inside = (omega arith, let b : endAt s at ≤ length s = (rw q at w) .0 .1 in omega arith);
       others = (rw q at w) .1;
     })
@@ -171,26 +171,26 @@ unfolding nodeKeys NodesIn FitsPlace placeNodes missing keysOf encNode
 keys-held s x h [] at r f q = (refl, tt)
 keys-held s x h (filled b ∷ ps) at r f q =
     let N : Bytes = encAll encNode (placeNodes x ps) in
-    let w : FitsNode 1 b [] 0 = record { kind = omega arith; first = f .0; second = omega arith; number = omega arith } in
-    let p : drop at s ≡ nodeBytes 1 b [] 0 ++ (N ++ r) = q ∙ append-assoc (nodeBytes 1 b [] 0) N r in
-    let k = kind-there s at 1 b [] 0 (N ++ r) w p in
-    let l = first-there s at 1 b [] 0 (N ++ r) w p in
-    let m = second-there s at 1 b [] 0 (N ++ r) w p in
-    let g = long-there s at 1 b [] 0 (N ++ r) w p in
-    let d = rest-there s at 1 b [] 0 (N ++ r) w p in
+    let w : FitsNode servedKind b [] 0 = record { kind = omega arith; first = f .0; second = omega arith; number = omega arith } in
+    let p : drop at s ≡ nodeBytes servedKind b [] 0 ++ (N ++ r) = q ∙ append-assoc (nodeBytes servedKind b [] 0) N r in
+    let k = kind-there s at servedKind b [] 0 (N ++ r) w p in
+    let l = first-there s at servedKind b [] 0 (N ++ r) w p in
+    let m = second-there s at servedKind b [] 0 (N ++ r) w p in
+    let g = long-there s at servedKind b [] 0 (N ++ r) w p in
+    let d = rest-there s at servedKind b [] 0 (N ++ r) w p in
     let e : at + 20 + length b + 0 ≡ endAt s at = omega arith in
     let i = keys-held s x h ps (endAt s at) r (f .1) (ap (λ (n : ℕ). drop n s) (sym e) ∙ d) in
     (rw k (i .0), ((omega arith, omega arith), i .1))
 keys-held s x h (waiting u ∷ ps) at r f q =
     let N : Bytes = encAll encNode (placeNodes x ps) in
-    let w : FitsNode 5 (u .key) (u .command) x = record { kind = omega arith; first = f .0 .0; second = f .0 .1; number = h } in
-    let p : drop at s ≡ nodeBytes 5 (u .key) (u .command) x ++ (N ++ r) = q ∙ append-assoc (nodeBytes 5 (u .key) (u .command) x) N r in
-    let k = kind-there s at 5 (u .key) (u .command) x (N ++ r) w p in
-    let l = first-there s at 5 (u .key) (u .command) x (N ++ r) w p in
-    let m = second-there s at 5 (u .key) (u .command) x (N ++ r) w p in
-    let g = long-there s at 5 (u .key) (u .command) x (N ++ r) w p in
-    let d = rest-there s at 5 (u .key) (u .command) x (N ++ r) w p in
-    let y = first-part s at 5 (u .key) (u .command) x (N ++ r) w p in
+    let w : FitsNode waitingKind (u .key) (u .command) x = record { kind = omega arith; first = f .0 .0; second = f .0 .1; number = h } in
+    let p : drop at s ≡ nodeBytes waitingKind (u .key) (u .command) x ++ (N ++ r) = q ∙ append-assoc (nodeBytes waitingKind (u .key) (u .command) x) N r in
+    let k = kind-there s at waitingKind (u .key) (u .command) x (N ++ r) w p in
+    let l = first-there s at waitingKind (u .key) (u .command) x (N ++ r) w p in
+    let m = second-there s at waitingKind (u .key) (u .command) x (N ++ r) w p in
+    let g = long-there s at waitingKind (u .key) (u .command) x (N ++ r) w p in
+    let d = rest-there s at waitingKind (u .key) (u .command) x (N ++ r) w p in
+    let y = first-part s at waitingKind (u .key) (u .command) x (N ++ r) w p in
     let e : at + 20 + length (u .key) + length (u .command) ≡ endAt s at = omega arith in
     let i = keys-held s x h ps (endAt s at) r (f .1) (ap (λ (n : ℕ). drop n s) (sym e) ∙ d) in
     (rw k (ap₂ _∷_ (ap (part s (at + 20)) l ∙ y) (i .0)), ((omega arith, omega arith), i .1))

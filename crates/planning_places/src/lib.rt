@@ -47,7 +47,7 @@ fn measure_key(
     match planning_outcome::peek_key(bytes, v, key, arena, g, when) {
         Looked::Hit { from, to } => Measured {
             missing: m.missing,
-            nodes: m.nodes + (plan_write::NODE_HEAD + (to - from)),
+            nodes: m.nodes + (planning::NODE_HEAD + (to - from)),
             keys: m.keys,
         },
         Looked::Miss(_) => {
@@ -111,7 +111,7 @@ fn place_at(src: &[u8], from: Source) -> PlaceAt
         Source::Nodes(at) => {
             let node = plan::node_at(src, at);
             PlaceAt {
-                served: node.kind == 1,
+                served: node.kind == planning::NODE_SERVED,
                 key: Range {
                     start: node.first,
                     end: node.second,

@@ -18,8 +18,9 @@ use Rattle.plan_write.specs.Wrote.{wrote-none, wrote-both, wrote-long, room-fir
 use Rattle.sharded_lru.specs.Lent.{setupNow, Lent, Arena}
 use Rattle.planning_outcome.specs.Result.{outcomeFor}
 use Rattle.planning_outcome.specs.Sizes.{nodesFor, sentFor, allNodes, allSent, sentCount}
-use Rattle.planning_look_up.specs.Looks.{countsOf, Keeps, Looks, looks-none}
-use Rattle.planning_look_up.specs.Finds.{lent-same}
+use Rattle.statistics.specs.OfBook.{countsOf}
+use Rattle.planning_look_up.specs.Looks.{Keeps, Looks, looks-none}
+use Rattle.sharded_lru.specs.Laws.{lent-same}
 use Rattle.planning_second_pass.specs.Unseen.{afterLookups, nodes-after, sent-after, count-after}
 use Rattle.planning_second_pass.specs.declared.Progress.{Progress}
 

@@ -1,5 +1,5 @@
 -- The ways through the whole call, as laws of its definition. Assumes what `Lent` says of the arena.
-use mathlib.Core.Path.{_≡_, refl, sym, ap, _∙_, subst}
+use mathlib.Core.Path.{_≡_, refl, sym, ap, _∙_}
 use Prim.Native.Nat.{ℕ}
 use mathlib.Core.Bool.{true, false}
 use lib.ListN.{length}
@@ -9,9 +9,8 @@ use Rattle.config.specs.Causes.{badReply}
 use Rattle.config.specs.declared.Settings.{Settings}
 use Rattle.statistics.specs.declared.Statistics.{Statistics}
 use Rattle.resp3.specs.Ends.{isValue}
-use Rattle.resp3.specs.Value.{Means}
 use Rattle.resp3.specs.Decode.{decode}
-use Rattle.resp3.specs.Law.{value-law, decode-law}
+use Rattle.resp3.specs.Law.{value-means}
 use Rattle.book.specs.Book.{Setup, Row, Counts}
 use Rattle.book.specs.Calls.{afterCall}
 use Rattle.arena.specs.Layout.{encode}
@@ -25,7 +24,8 @@ use Rattle.call_entry.specs.Entered.{noCause, holding}
 use Rattle.call_entry.specs.Laws.{is-entered, not-entered}
 use Rattle.single_calls.specs.declared.Answered.the-variants.{Done, Refused}
 use Rattle.single_calls.specs.Single.{Return, refusedAs}
-use Rattle.single_calls.specs.Answers.{countsOf, InvalidationLeft}
+use Rattle.statistics.specs.OfBook.{countsOf}
+use Rattle.single_calls.specs.Answers.{InvalidationLeft}
 use Rattle.single_calls.specs.AnswerLaws.{refused-is}
 use Rattle.push.specs.Push.{pushedOn, imaged, pushCall}
 use Rattle.push.specs.Kept.{Kept, One}
@@ -59,9 +59,6 @@ module _ (p : Setup) (rows : ℕ → Row) (bytes : Bytes) (h : Held) where
   good-bytes e = rw e
 
 -- the value that the bytes are
-pub value-means : (bytes : Bytes) → isValue bytes ≡ true → Means bytes (decode bytes)
-value-means bytes e = let w = value-law bytes .0 e in subst (Means bytes) (sym (decode-law bytes (w .v) (w .means))) (w .means)
-
 pub one-value : (bytes : Bytes) → isValue bytes ≡ true → One bytes
 one-value bytes e = record { value = decode bytes; means = value-means bytes e }
 

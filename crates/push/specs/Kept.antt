@@ -8,7 +8,7 @@ use Rattle.resp3_element.specs.declared.Cursor.{Cursor}
 use Rattle.resp3_element.specs.Meaning.{Stands}
 use Rattle.book.specs.Book.{Book}
 use Rattle.sharded_lru.specs.Lent.{Lent}
-use Rattle.single_calls.specs.Answers.{countsOf}
+use Rattle.statistics.specs.OfBook.{countsOf}
 
 -- the arena s and the counts c are those of the book bk
 pub record Kept (g : Settings) (s : Bytes) (c : Statistics) (bk : Book) : Type 0 where

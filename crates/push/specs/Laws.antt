@@ -3,10 +3,8 @@ use mathlib.Core.Path.{_≡_, refl, sym, ap, _∙_, subst}
 use mathlib.Core.Bool.{Bool, true, false, cond}
 use mathlib.Core.Option.{Option, some}
 use mathlib.Core.Option as option
-use mathlib.Core.List.{[], _∷_}
 use Prim.Native.Nat.{ℕ, _<_}
 use native.Mathlib.Omega.{arith}
-use lib.ListN.{length, getD}
 use Rattle.buffer.specs.Cases.{byTest}
 use Rattle.buffer.specs.Same.{Bytes, same}
 use Rattle.buffer.specs.Ascii.{ascii}
@@ -25,15 +23,10 @@ use Rattle.arena.specs.Sizes.{setupOf}
 use Rattle.resolving.specs.Pushes.{keysOf, ignored, invalidating, afterFirst, isInvalidate, fromElements, fromPush}
 use Rattle.sharded_lru.specs.Lent.{setupNow, Lent, Arena, effectIn, rowsAfter}
 use Rattle.sharded_lru.specs.Laws.{rows-after}
-use Rattle.single_calls.specs.Answers.{countsOf}
+use Rattle.statistics.specs.OfBook.{countsOf}
 use Rattle.push.specs.Kept.{Kept, One, Standing}
 
 -- ---- values
-
--- an empty slice has no first byte
-pub nothing-first : (s : Bytes) → length s ≡ 0 → 0 ≡ getD s 0 0
-nothing-first [] e = refl
-nothing-first (b ∷ s) e = absurd (omega arith)
 
 -- a value that is no blob string has no bytes, and so not these
 pub invalidate-law : (v : Value) (b : Bytes) → b ≡ blobOf v → same b (ascii "invalidate") ≡ isInvalidate v

@@ -1,3 +1,4 @@
+pub mod KeyKind
 pub mod Push
 pub mod Kept
 pub mod Cases

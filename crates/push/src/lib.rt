@@ -2,6 +2,7 @@
 // After the push handling of cache_manager.rs. specs/Push.antt says what a push returns and leaves; inner functions speak of whatever book the
 // arena and the counts are those of.
 use config::Settings;
+use resp3::Kind;
 use resp3_element::Cursor;
 use resp3_element::Elements;
 use sharded_lru::Admitted;
@@ -18,18 +19,41 @@ ghost use Rattle.book.specs.Calls.{push, afterCall};
 ghost use Rattle.resolving.specs.Pushes.{keysOf, invalidating, isInvalidate, fromElements, pushed};
 ghost use Rattle.sharded_lru.specs.Lent.{setupNow, Arena};
 ghost use Rattle.call_entry.specs.Entered.{holding};
-ghost use Rattle.single_calls.specs.Answers.{countsOf, InvalidationLeft};
+ghost use Rattle.statistics.specs.OfBook.{countsOf};
+ghost use Rattle.single_calls.specs.Answers.{InvalidationLeft};
+ghost use Rattle.push.specs.KeyKind.{isKeyKind};
 ghost use Rattle.push.specs.Push.{pushCall};
 ghost use Rattle.push.specs.Kept.{Kept, One, Standing};
+
+// Whether values of the kind are keys: blob strings alone are.
+fn is_key_kind(kind: Kind) -> bool
+    ensures { λ r. ⌜ r ≡ isKeyKind kind ⌝ }
+{
+    match kind {
+        Kind::BlobString => true,
+        Kind::SimpleString => false,
+        Kind::SimpleError => false,
+        Kind::Number => false,
+        Kind::Null => false,
+        Kind::Double => false,
+        Kind::Boolean => false,
+        Kind::BlobError => false,
+        Kind::VerbatimString => false,
+        Kind::BigNumber => false,
+        Kind::Array => false,
+        Kind::Map => false,
+        Kind::Set => false,
+        Kind::Attribute => false,
+        Kind::Push => false,
+        Kind::Unknown => false,
+    }
+}
 
 // Whether the value is a blob string: only such a one is a key.
 fn is_blob(value: &[u8]) -> bool
     ensures { λ r. ⌜ ((v : Value) → Means (now (value .entry)) v → r ≡ ofKind BlobString v) ⌝ }
 {
-    if value.len() == 0 {
-        return false;
-    }
-    value[0] == b'$'
+    is_key_kind(resp3_element::kind(value))
 }
 
 // Whether the value is the blob `invalidate`.
@@ -43,10 +67,7 @@ fn is_invalidate(value: &[u8]) -> bool
 fn dropped(counts: Statistics, entries: usize) -> Statistics
     ensures { λ r. ⌜ countsOf r ≡ count (countsOf counts) (plus 0 0 entries) ⌝ }
 {
-    counts
-        .increase_hit(0)
-        .increase_miss(0)
-        .increase_invalidate(entries as u64)
+    counts.increase_each(0, 0, entries as u64)
 }
 
 // Drops the item of the key that the element is, if it is one.

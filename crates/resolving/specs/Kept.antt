@@ -5,7 +5,7 @@ use mathlib.Core.List.{List, [], _∷_}
 use Prim.Native.Nat.{ℕ, _+_, _≤_, _<_, _^_}
 use native.Mathlib.Omega.{arith}
 use lib.ListN.{length, length-append}
-use Rattle.config.specs.Limits.{maxKey, maxBytes, maxDepth}
+use Rattle.config.specs.Limits.{maxKey, maxCommandKey, maxBytes, maxDepth}
 use Rattle.config.specs.declared.CacheMode.{CacheMode}
 use Rattle.resp3.specs.Value.{Value, Values, array, none, more, depth, deepest, Valid, Valids, encs, encode, IsValue}
 use Rattle.resp3.specs.Rows.{enc-is}
@@ -24,7 +24,7 @@ pub record Sent (v : Value) : Type 0 where
 -- what a missing key of a plan is, by docs/LAYOUT.md's rules
 pub record Asked (m : Missing) : Type 0 where
   pub key : length (m .key) ≤ maxKey
-  pub command : length (m .command) ≤ maxBytes
+  pub command : length (m .command) ≤ maxCommandKey
   pub expiry : m .expiry < 2 ^ 64
 
 -- a plan whose missing keys are within the limits and whose served values are RESP3 values
@@ -34,7 +34,7 @@ Within p = CommandsHave Sent Asked Valid (p .commands)
 -- what may be stored
 pub record Storable (s : Storing) : Type 0 where
   pub key : length (s .key) ≤ maxKey
-  pub command : length (s .command) ≤ maxBytes
+  pub command : length (s .command) ≤ maxCommandKey
   pub value : IsValue (s .value)
   pub expiry : s .expiry < 2 ^ 64
 

@@ -21,9 +21,10 @@ use Rattle.resolving_step.specs.declared.Step.{Step}
 use Rattle.resolving_step.specs.declared.Next.{Next}
 use Rattle.resolving_step.specs.declared.Next.the-variants.{Plan, Reply, Head, Keep, Pass, Wrong as WrongNext}
 use Rattle.resolving_step.specs.Steps.{nextBytes, nextStores, isWrong, NextIn, StepIs}
-use Rattle.resolving_passes.specs.declared.Room.{Room}
+use Rattle.room.specs.Room.{spent}
+use Rattle.room.specs.declared.Room.{Room}
 use Rattle.resolving_passes.specs.declared.Dry.the-variants.{Wrong}
-use Rattle.resolving_passes.specs.Passes.{Ordered, nextSize, spent, Starts, dryIf, dryOf, FineWalk, Fine, answerBytes}
+use Rattle.resolving_passes.specs.Passes.{Ordered, nextSize, Starts, dryIf, dryOf, FineWalk, Fine, answerBytes}
 use Rattle.resolving_passes.specs.Reached.{Reached, start, Stepped, stepped, ended}
 
 -- ---- sizes
@@ -58,6 +59,7 @@ room-same room x = let e : x ≡ 0 + x = omega arith in ap (λ (i : ℕ). cond (
 
 -- n bytes more
 pub tally-spent : (room r : Room) (n k : ℕ) → Tally room n r → Tally room (n + k) (spent r k)
+unfolding spent
 tally-spent room r n k h x =
     let e : n + (k + x) ≡ n + k + x = omega arith in
     byTest (leb k (r .left))

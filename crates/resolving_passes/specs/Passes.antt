@@ -18,7 +18,7 @@ use Rattle.resolving_step.specs.declared.Walk.{Walk}
 use Rattle.resolving_step.specs.declared.Next.{Next}
 use Rattle.resolving_step.specs.declared.Next.the-variants.{Plan, Reply, Head, Keep, Pass, Wrong as WrongNext}
 use Rattle.resolving_step.specs.Steps.{Bounds, At}
-use Rattle.resolving_passes.specs.declared.Room.{Room}
+use Rattle.room.specs.declared.Room.{Room}
 use Rattle.resolving_passes.specs.declared.Dry.{Dry}
 use Rattle.resolving_passes.specs.declared.Dry.the-variants.{Fits, Short, Wrong}
 
@@ -41,14 +41,6 @@ nextSize (Head n) = length (digits n) + 3
 nextSize (Keep m a e) = e - a
 nextSize Pass = 0
 nextSize WrongNext = 0
-
-abbrev pub roomIf : Bool → Room → Room → Room
-roomIf true a b = a
-roomIf false a b = b
-
--- the room after n bytes
-abbrev pub spent : Room → ℕ → Room
-spent r n = roomIf (leb n (r .left)) (record { left = r .left - n; short = r .short }) (record { left = 0; short = true })
 
 -- ---- where a pass begins
 

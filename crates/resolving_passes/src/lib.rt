@@ -3,12 +3,13 @@
 use config::CacheMode;
 use resolving_step::Next;
 use resolving_step::Walk;
+use room::Room;
 ghost use mathlib.Core.Path.{_≡_};
 ghost use Prim.Native.Nat.{_+_, _≤_};
 ghost use lib.ListN.{length};
 ghost use Rattle.buffer.specs.Part.{put};
 ghost use Rattle.resolving_step.specs.Steps.{elementBytes, nextBytes, isWrong, NextIn};
-ghost use Rattle.resolving_passes.specs.Passes.{Ordered, nextSize, spent, Begins, DryIs, Fine, AnswerIs};
+ghost use Rattle.resolving_passes.specs.Passes.{Ordered, nextSize, Begins, DryIs, Fine, AnswerIs};
 
 // Whether a reply is absent or of the wrong shape.
 pub fn is_wrong(next: Next) -> bool
@@ -36,27 +37,6 @@ fn next_size(next: Next) -> usize
         Next::Keep(_, a, e) => e - a,
         Next::Pass => 0,
         Next::Wrong => 0,
-    }
-}
-
-// The room that is left in the answer buffer, or that it was short. It is counted down, so that nothing can wrap.
-pub struct Room {
-    pub left: usize,
-    pub short: bool,
-}
-
-pub fn spend(r: Room, n: usize) -> Room
-    ensures { λ q. ⌜ q ≡ spent r n ⌝ }
-{
-    if n <= r.left {
-        return Room {
-            left: r.left - n,
-            short: r.short,
-        };
-    }
-    Room {
-        left: 0,
-        short: true,
     }
 }
 
@@ -88,7 +68,7 @@ pub fn dry_pass(
         if is_wrong(next) {
             return Dry::Wrong;
         }
-        r = spend(r, next_size(next));
+        r = room::spend(r, next_size(next));
         let d = t.walk;
         c = d;
     }

@@ -14,6 +14,7 @@ use Rattle.resp3_element.specs.declared.Elements.{Elements}
 use Rattle.resp3_element.specs.declared.Elements.the-variants.{Of, No}
 use Rattle.resp3_element.specs.Meaning.{arrayOf, Inside, Stands, Holds}
 use Rattle.resp3_element.specs.CursorLaw.{element-law}
+use Rattle.planning.specs.Plan.{nullStart, nullEnd}
 use Rattle.resolving.specs.Plan.{Missing}
 use Rattle.resolving.specs.Resolve.{eaten}
 use Rattle.resolving_walk.specs.Walk.{nothing, move, handMove, singleMove, arrayMove, severalMove, waitingMove}
@@ -164,12 +165,12 @@ module _ (p s : Bytes) (b : Bounds p s) where
       rw e (subst (λ (y : Bytes). Means y v) q (element-means A (c .element) v vs k))
 
   pub waiting-element : (c : Walk) (clock : ℕ) (w : Missing) (es rs : Values) → Lists s c es rs → c .element .left ≡ 0
-      → Moved p s c (says (Plan 1 4) c) (waitingMove clock w es rs)
+      → Moved p s c (says (Plan nullStart nullEnd) c) (waitingMove clock w es rs)
   waiting-element c clock w none rs h e = (blank-says p s b, h, refl)
   waiting-element c clock w (more v es) rs h e = none-left (part s (c .from) (c .to - c .from)) (c .element) v es (h .elements) e
 
   pub waiting-pttl : (c : Walk) (clock : ℕ) (w : Missing) (es rs : Values) → Lists s c es rs → ((c .element .left ≡ 0) → ⊥) → c .reply .left ≡ 0
-      → Moved p s c (says (Plan 1 4) c) (waitingMove clock w es rs)
+      → Moved p s c (says (Plan nullStart nullEnd) c) (waitingMove clock w es rs)
   waiting-pttl c clock w none rs h k e = (blank-says p s b, h, refl)
   waiting-pttl c clock w (more v es) none h k e = (blank-says p s b, h, refl)
   waiting-pttl c clock w (more v es) (more t rs) h k e = none-left s (c .reply) t rs (h .replies) e

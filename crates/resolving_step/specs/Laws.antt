@@ -11,6 +11,7 @@ use Rattle.format.specs.Runs.{encAll}
 use Rattle.resp3.specs.Value.{Values, none, more}
 use Rattle.book.specs.Calls.{Wanted}
 use Rattle.planning.specs.Plan.{Node, handOn, servedValue, allServed, missingKey, several, waitingPlace, endOfSeveral, encNode}
+use Rattle.planning.specs.Plan.{handOnKind, servedKind, allServedKind, missingKind, severalKind, waitingKind, endKind}
 use Rattle.planning.specs.Rules.{GoodNode}
 use Rattle.plan.specs.declared.NodeHead.{NodeHead}
 use Rattle.plan.specs.Head.{headAt, HeadIn}
@@ -70,7 +71,8 @@ module _ (p s : Bytes) (b : Bounds p s) (c : Walk) (n : NodeHead) where
   -- ---- by the node's kind
 
   module _ (mode : CacheMode) (clock : ℕ) (r : Step) where
-    pub on-hand : n .kind ≡ 0 → HandsOn s c r → (nd : Node) (es rs : Values) → HeadFor p n nd → Lists s c es rs → Moved p s c r (nodeMove mode clock nd es rs)
+    pub on-hand : n .kind ≡ handOnKind → HandsOn s c r → (nd : Node) (es rs : Values) → HeadFor p n nd → Lists s c es rs
+        → Moved p s c r (nodeMove mode clock nd es rs)
     unfolding node-defs nodeMove
     on-hand k f handOn es rs h l = f p es rs b l
     on-hand k f (servedValue v) es rs h l = absurd (omega (arith, h .kind))
@@ -80,7 +82,7 @@ module _ (p s : Bytes) (b : Bounds p s) (c : Walk) (n : NodeHead) where
     on-hand k f (waitingPlace w x) es rs h l = absurd (omega (arith, h .kind))
     on-hand k f endOfSeveral es rs h l = absurd (omega (arith, h .kind))
 
-    pub on-value : n .kind ≡ 1 → r ≡ says (Plan (n .first) (n .second)) c → (nd : Node) (es rs : Values) → HeadFor p n nd → Lists s c es rs
+    pub on-value : n .kind ≡ servedKind → r ≡ says (Plan (n .first) (n .second)) c → (nd : Node) (es rs : Values) → HeadFor p n nd → Lists s c es rs
         → Moved p s c r (nodeMove mode clock nd es rs)
     unfolding node-defs nodeMove
     on-value k f handOn es rs h l = absurd (omega (arith, h .kind))
@@ -91,7 +93,7 @@ module _ (p s : Bytes) (b : Bounds p s) (c : Walk) (n : NodeHead) where
     on-value k f (waitingPlace w x) es rs h l = absurd (omega (arith, h .kind))
     on-value k f endOfSeveral es rs h l = absurd (omega (arith, h .kind))
 
-    pub on-all : n .kind ≡ 2 → r ≡ says (Head (n .number)) c → (nd : Node) (es rs : Values) → HeadFor p n nd → Lists s c es rs
+    pub on-all : n .kind ≡ allServedKind → r ≡ says (Head (n .number)) c → (nd : Node) (es rs : Values) → HeadFor p n nd → Lists s c es rs
         → Moved p s c r (nodeMove mode clock nd es rs)
     unfolding node-defs nodeMove
     on-all k f handOn es rs h l = absurd (omega (arith, h .kind))
@@ -102,7 +104,7 @@ module _ (p s : Bytes) (b : Bounds p s) (c : Walk) (n : NodeHead) where
     on-all k f (waitingPlace w x) es rs h l = absurd (omega (arith, h .kind))
     on-all k f endOfSeveral es rs h l = absurd (omega (arith, h .kind))
 
-    pub on-waiting : n .kind ≡ 5 → Waits s c (missedOf n) clock r → (nd : Node) (es rs : Values) → HeadFor p n nd → Lists s c es rs
+    pub on-waiting : n .kind ≡ waitingKind → Waits s c (missedOf n) clock r → (nd : Node) (es rs : Values) → HeadFor p n nd → Lists s c es rs
         → Moved p s c r (nodeMove mode clock nd es rs)
     unfolding node-defs nodeMove
     on-waiting k f handOn es rs h l = absurd (omega (arith, h .kind))
@@ -113,7 +115,7 @@ module _ (p s : Bytes) (b : Bounds p s) (c : Walk) (n : NodeHead) where
     on-waiting k f (waitingPlace w x) es rs h l = f p (missingOf w x) es rs b (waiting-is w x h) l
     on-waiting k f endOfSeveral es rs h l = absurd (omega (arith, h .kind))
 
-    pub on-end : n .kind ≡ 6 → Ends s c r → (nd : Node) (es rs : Values) → HeadFor p n nd → Lists s c es rs → Moved p s c r (nodeMove mode clock nd es rs)
+    pub on-end : n .kind ≡ endKind → Ends s c r → (nd : Node) (es rs : Values) → HeadFor p n nd → Lists s c es rs → Moved p s c r (nodeMove mode clock nd es rs)
     unfolding node-defs nodeMove
     on-end k f handOn es rs h l = absurd (omega (arith, h .kind))
     on-end k f (servedValue v) es rs h l = absurd (omega (arith, h .kind))
@@ -125,7 +127,8 @@ module _ (p s : Bytes) (b : Bounds p s) (c : Walk) (n : NodeHead) where
 
     -- none of these is a missing command's
     abbrev pub Late : Type 0
-    Late = ((n .kind ≡ 0) → ⊥) × ((n .kind ≡ 1) → ⊥) × ((n .kind ≡ 2) → ⊥) × ((n .kind ≡ 5) → ⊥) × ((n .kind ≡ 6) → ⊥)
+    Late = ((n .kind ≡ handOnKind) → ⊥) × ((n .kind ≡ servedKind) → ⊥) × ((n .kind ≡ allServedKind) → ⊥) × ((n .kind ≡ waitingKind) → ⊥)
+        × ((n .kind ≡ endKind) → ⊥)
 
     pub on-missing : Late → OnMissing s c n mode clock r → (nd : Node) (es rs : Values) → HeadFor p n nd → Lists s c es rs
         → Moved p s c r (nodeMove mode clock nd es rs)
@@ -152,7 +155,8 @@ module _ (p s : Bytes) (b : Bounds p s) (c : Walk) (n : NodeHead) where
     stop-move OptIn none es f h e = e
     stop-move OptIn (more v rs) es f h e = absurd h
 
-    pub missing-stop : Readies s c mode Stop → r .next ≡ Wrong → (nd : Node) (es rs : Values) → HeadFor p n nd → 3 ≤ kindOf nd → kindOf nd ≤ 4 → Lists s c es rs
+    pub missing-stop : Readies s c mode Stop → r .next ≡ Wrong → (nd : Node) (es rs : Values) → HeadFor p n nd
+        → missingKind ≤ kindOf nd → kindOf nd ≤ severalKind → Lists s c es rs
         → Moved p s c r (nodeMove mode clock nd es rs)
     unfolding node-defs nodeMove
     missing-stop f e handOn es rs h i j l = absurd (omega arith)
@@ -163,8 +167,9 @@ module _ (p s : Bytes) (b : Bounds p s) (c : Walk) (n : NodeHead) where
     missing-stop f e (waitingPlace w x) es rs h i j l = absurd (omega arith)
     missing-stop f e endOfSeveral es rs h i j l = absurd (omega arith)
 
-    pub missing-several : (d : Walk) → Readies s c mode (Go d) → n .kind ≡ 4 → TakesSeveral s d (n .number) r
-        → (nd : Node) (es rs : Values) → HeadFor p n nd → 3 ≤ kindOf nd → kindOf nd ≤ 4 → Lists s c es rs → Moved p s c r (nodeMove mode clock nd es rs)
+    pub missing-several : (d : Walk) → Readies s c mode (Go d) → n .kind ≡ severalKind → TakesSeveral s d (n .number) r
+        → (nd : Node) (es rs : Values) → HeadFor p n nd → missingKind ≤ kindOf nd → kindOf nd ≤ severalKind → Lists s c es rs
+        → Moved p s c r (nodeMove mode clock nd es rs)
     unfolding node-defs nodeMove
     missing-several d f k t handOn es rs h i j l = absurd (omega arith)
     missing-several d f k t (servedValue v) es rs h i j l = absurd (omega arith)
@@ -175,8 +180,9 @@ module _ (p s : Bytes) (b : Bounds p s) (c : Walk) (n : NodeHead) where
     missing-several d f k t (waitingPlace w x) es rs h i j l = absurd (omega arith)
     missing-several d f k t endOfSeveral es rs h i j l = absurd (omega arith)
 
-    pub missing-single : (d : Walk) → Readies s c mode (Go d) → ((n .kind ≡ 4) → ⊥) → TakesSingle s d (missedOf n) clock r
-        → (nd : Node) (es rs : Values) → HeadFor p n nd → 3 ≤ kindOf nd → kindOf nd ≤ 4 → Lists s c es rs → Moved p s c r (nodeMove mode clock nd es rs)
+    pub missing-single : (d : Walk) → Readies s c mode (Go d) → ((n .kind ≡ severalKind) → ⊥) → TakesSingle s d (missedOf n) clock r
+        → (nd : Node) (es rs : Values) → HeadFor p n nd → missingKind ≤ kindOf nd → kindOf nd ≤ severalKind → Lists s c es rs
+        → Moved p s c r (nodeMove mode clock nd es rs)
     unfolding node-defs nodeMove
     missing-single d f k t handOn es rs h i j l = absurd (omega arith)
     missing-single d f k t (servedValue v) es rs h i j l = absurd (omega arith)

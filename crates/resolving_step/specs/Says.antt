@@ -8,9 +8,10 @@ use borrow.Author.Tests.{lt-ltb, le-ltb}
 use lib.ListN.{length}
 use Rattle.buffer.specs.Same.{Bytes}
 use Rattle.buffer.specs.Part.{part, length-part}
-use Rattle.resp3.specs.Value.{Value, null, encode, Means}
+use Rattle.resp3.specs.Value.{Value, encode, Means, nullBytes}
 use Rattle.resp3_element.specs.declared.Integer.the-variants.{Is}
 use Rattle.resp3_element.specs.Meaning.{isError, integerOf}
+use Rattle.planning.specs.Plan.{nullStart, nullEnd}
 use Rattle.resolving.specs.Plan.{Missing}
 use Rattle.resolving.specs.Store.{expiryOf}
 use Rattle.resolving.specs.Expiry.{not-later}
@@ -42,8 +43,8 @@ unfolding bytesOf storesOf
 plan-says p s a e bs l i h = record { bytes = h; stores = refl; inside = (l, i); fine = refl; storable = tt }
 
 -- a place that stays unfilled
-pub blank-says : (p s : Bytes) → Bounds p s → Says p s (Plan 1 4) (shown (encode null))
-blank-says p s b = plan-says p s 1 4 (encode null) (omega arith) (b .long) (b .blank)
+pub blank-says : (p s : Bytes) → Bounds p s → Says p s (Plan nullStart nullEnd) (shown nullBytes)
+blank-says p s b = plan-says p s 1 4 nullBytes (omega arith) (b .long) (b .blank)
 
 -- an array's head
 pub head-says : (p s : Bytes) (n : ℕ) → Says p s (Head n) (header n)

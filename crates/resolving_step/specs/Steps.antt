@@ -11,12 +11,12 @@ use Rattle.config.specs.Limits.{maxBytes}
 use Rattle.config.specs.declared.CacheMode.{CacheMode}
 use Rattle.config.specs.declared.CacheMode.the-variants.{All, OptIn}
 use Rattle.format.specs.Runs.{encAll}
-use Rattle.resp3.specs.Value.{Value, Values, null, none, more, encode, Means}
+use Rattle.resp3.specs.Value.{Value, Values, none, more, Means, nullBytes}
 use Rattle.resp3_element.specs.declared.Cursor.{Cursor}
 use Rattle.resp3_element.specs.Meaning.{Stands}
 use Rattle.book.specs.Calls.{Storing}
 use Rattle.cmd.specs.Pack.{head}
-use Rattle.planning.specs.Plan.{Node, encNode}
+use Rattle.planning.specs.Plan.{Node, encNode, missingKind, severalKind, nullStart}
 use Rattle.planning.specs.Rules.{GoodNode}
 use Rattle.plan.specs.declared.NodeHead.{NodeHead}
 use Rattle.plan.specs.Node.{kindOf, firstOf, secondOf, numberOf}
@@ -123,7 +123,7 @@ pub record Says (p s : Bytes) (n : Next) (g : Given) : Type 0 where
 
 -- what holds of plan and list throughout: the plan has the bytes of `_`, and the list is no longer than a value may be
 pub record Bounds (p s : Bytes) : Type 0 where
-  pub blank : part p 1 3 ≡ encode null
+  pub blank : part p nullStart 3 ≡ nullBytes
   pub long : 4 ≤ length p
   pub small : length s ≤ maxBytes
 
@@ -212,7 +212,7 @@ OnNode s c n mode clock r =
 -- the node of a missing command, one key or several
 abbrev pub OnMissing : Bytes → Walk → NodeHead → CacheMode → ℕ → Step → Type 0
 OnMissing s c n mode clock r =
-    (p : Bytes) (nd : Node) (es rs : Values) → Bounds p s → HeadFor p n nd → 3 ≤ kindOf nd → kindOf nd ≤ 4 → Lists s c es rs
+    (p : Bytes) (nd : Node) (es rs : Values) → Bounds p s → HeadFor p n nd → missingKind ≤ kindOf nd → kindOf nd ≤ severalKind → Lists s c es rs
     → Moved p s c r (nodeMove mode clock nd es rs)
 
 -- a step does what the walk does at its node

@@ -212,7 +212,7 @@ fn waiting(list: &[u8], c: Walk, m: Missed, clock: u64) -> Step
     ensures { λ r. ⌜ Waits (now (list .entry)) c m clock r ⌝ }
 {
     let unfilled = Step {
-        next: Next::Plan(1, 4),
+        next: Next::Plan(planning::NULL_START, planning::NULL_END),
         walk: c,
     };
     let e = c.element;
@@ -288,7 +288,7 @@ fn missing(list: &[u8], c: Walk, n: NodeHead, mode: CacheMode, clock: u64) -> St
             walk: c,
         };
     };
-    if n.kind == 4 {
+    if n.kind == planning::NODE_SEVERAL {
         return several(list, d, n.number);
     }
     let m = Missed {
@@ -305,22 +305,22 @@ fn on_node(list: &[u8], c: Walk, n: NodeHead, mode: CacheMode, clock: u64) -> St
     requires { ⌜ Placed (now list) c ⌝ }
     ensures { λ r. ⌜ OnNode (now (list .entry)) c n mode clock r ⌝ }
 {
-    if n.kind == 0 {
+    if n.kind == planning::NODE_HAND_ON {
         return hand_on(list, c);
     }
-    if n.kind == 1 {
+    if n.kind == planning::NODE_SERVED {
         return Step {
             next: Next::Plan(n.first, n.second),
             walk: c,
         };
     }
-    if n.kind == 2 {
+    if n.kind == planning::NODE_ALL_SERVED {
         return Step {
             next: Next::Head(n.number),
             walk: c,
         };
     }
-    if n.kind == 5 {
+    if n.kind == planning::NODE_WAITING {
         let m = Missed {
             key: n.first,
             command: n.second,
@@ -329,7 +329,7 @@ fn on_node(list: &[u8], c: Walk, n: NodeHead, mode: CacheMode, clock: u64) -> St
         };
         return waiting(list, c, m, clock);
     }
-    if n.kind == 6 {
+    if n.kind == planning::NODE_END {
         return ended(list, c);
     }
     missing(list, c, n, mode, clock)

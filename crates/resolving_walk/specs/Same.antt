@@ -11,7 +11,7 @@ use Rattle.buffer.specs.Cases.{byTest}
 use Rattle.config.specs.declared.CacheMode.{CacheMode}
 use Rattle.config.specs.declared.CacheMode.the-variants.{All, OptIn}
 use Rattle.decimal.specs.Digits.{digits}
-use Rattle.resp3.specs.Value.{Value, Values, null, array, none, more, count, encs, encode}
+use Rattle.resp3.specs.Value.{Value, Values, null, array, none, more, count, encs, encode, nullBytes}
 use Rattle.resp3.specs.Rows.{enc-is}
 use Rattle.resp3_element.specs.Meaning.{isError, arrayOf}
 use Rattle.book.specs.Calls.{Storing}
@@ -96,9 +96,9 @@ module _ (mode : CacheMode) (clock : ℕ) where
   unfolding walk placeNodes nodeMove bytesOf storesOf
   places-walk [] ns es rs = refl
   places-walk (served v ∷ ps) ns es rs = ap (before (encode v) []) (places-walk ps ns es rs) ∙ one-place v [] (fill clock ps es rs) ns
-  places-walk (waiting m ∷ ps) ns none rs = ap (before (encode null) []) (places-walk ps ns none rs) ∙ one-place null [] (fill clock ps none rs) ns
+  places-walk (waiting m ∷ ps) ns none rs = ap (before nullBytes []) (places-walk ps ns none rs) ∙ one-place null [] (fill clock ps none rs) ns
   places-walk (waiting m ∷ ps) ns (more v es) none =
-      ap (before (encode null) []) (places-walk ps ns (more v es) none) ∙ one-place null [] (fill clock ps (more v es) none) ns
+      ap (before nullBytes []) (places-walk ps ns (more v es) none) ∙ one-place null [] (fill clock ps (more v es) none) ns
   places-walk (waiting m ∷ ps) ns (more v es) (more t rs) =
       ap₂ (λ (b : Bytes) (s : List Storing). before b s (walk mode clock (placeNodes ps ns) es rs)) (fetched-bytes clock m t v) (fetched-stores clock m t v)
       ∙ ap (before (encode v) (storeOf clock m t v)) (places-walk ps ns es rs)

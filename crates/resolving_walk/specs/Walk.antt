@@ -8,7 +8,7 @@ use Prim.Native.Nat.{ℕ}
 use Rattle.buffer.specs.Same.{Bytes}
 use Rattle.config.specs.declared.CacheMode.{CacheMode}
 use Rattle.config.specs.declared.CacheMode.the-variants.{All, OptIn}
-use Rattle.resp3.specs.Value.{Value, Values, null, none, more, encode}
+use Rattle.resp3.specs.Value.{Value, Values, none, more, encode, nullBytes}
 use Rattle.resp3_element.specs.Meaning.{isError, arrayOf}
 use Rattle.book.specs.Calls.{Storing}
 use Rattle.cmd.specs.Pack.{head}
@@ -63,8 +63,8 @@ severalMove n (more v rs) = arrayMove n (arrayOf v) rs
 
 -- a place that waits: an element, then a PTTL; where one is absent it stays `_`
 abbrev pub waitingMove : ℕ → Missing → Values → Values → Move
-waitingMove clock m none rs = move (shown (encode null)) none rs
-waitingMove clock m (more v es) none = move (shown (encode null)) (more v es) none
+waitingMove clock m none rs = move (shown nullBytes) none rs
+waitingMove clock m (more v es) none = move (shown nullBytes) (more v es) none
 waitingMove clock m (more v es) (more pttl rs) = move (fetched clock m pttl v) es rs
 
 -- a node; at the end of several keys a longer array eats one PTTL more

@@ -74,6 +74,10 @@ pub decode-law : (s : Bytes) (v : Value) → Means s v → decode s ≡ v
 unfolding decode
 decode-law s v m = means-got s v m .found
 
+-- so accepted bytes mean what they are decoded to
+pub value-means : (s : Bytes) → isValue s ≡ true → Means s (decode s)
+value-means s e = let w = value-law s .0 e in rw (decode-law s (w .v) (w .means)) (w .means)
+
 -- no bytes begin with two values
 pub unique : (v w : Value) (r q : Bytes) → Valid v → Valid w → encode v ++ r ≡ encode w ++ q → v ≡ w
 unique v w r q ok pk h =

@@ -182,6 +182,10 @@ abbrev mutual
 unfoldable pub encode : Value → Bytes
 encode v = enc v []
 
+-- `_` as it is written, which also stands for a place that nothing fills
+abbrev pub nullBytes : Bytes
+nullBytes = encode null
+
 -- s is exactly the value v: valid, at most 16 levels deep, and nothing after it
 pub record Means (s : Bytes) (v : Value) : Type 0 where
   pub ok : Valid v

@@ -3,11 +3,12 @@
 use decimal::Num;
 ghost use mathlib.Core.Path.{_≡_};
 ghost use mathlib.Core.Bool.{true};
-ghost use Prim.Native.Nat.{_-_, _≤_};
+ghost use Prim.Native.Nat.{_+_, _-_, _≤_};
 ghost use lib.ListN.{length, getD};
-ghost use Rattle.buffer.specs.Part.{part};
+ghost use Rattle.buffer.specs.Same.{same};
+ghost use Rattle.buffer.specs.Part.{part, put};
 ghost use Rattle.resp3.specs.Kinds.{kindOf, shapeOf};
-ghost use Rattle.resp3.specs.Value.{plainB};
+ghost use Rattle.resp3.specs.Value.{plainB, nullBytes};
 ghost use Rattle.resp3.specs.Ends.{lengthAt, crlfEnd, lineEnd, blobEnd, verbatimEnd, numberEnd, booleanEnd, aloneOf, headAt, valueEnd, isValue};
 
 // Where something ends: the place after its last byte. Bad where it does not stand there whole.
@@ -296,6 +297,22 @@ pub fn is_value(s: &[u8]) -> bool
         End::At(e) => e == s.len(),
         End::Bad => false,
     }
+}
+
+// Whether `_` stands at `at`.
+pub fn null_at(s: &[u8], at: usize) -> bool
+    requires { ⌜ at + length nullBytes ≤ length (now s) ⌝ }
+    ensures { λ r. ⌜ r ≡ same (part (now (s .entry)) at (length nullBytes)) nullBytes ⌝ }
+{
+    buffer::same_at(s, at, b"_\r\n")
+}
+
+// `_`, written at `at`.
+pub fn write_null(s: &mut [u8], at: usize)
+    requires { ⌜ at + length nullBytes ≤ length (now s) ⌝ }
+    ensures { λ _. ⌜ now (s .exit) ≡ put (now (s .entry)) at nullBytes ⌝ }
+{
+    buffer::copy_to(s, at, b"_\r\n");
 }
 
 // Whether the bytes of s from `from` up to `to` are a blob string, and so a value: most values in an arena are. It reads them where they stand.

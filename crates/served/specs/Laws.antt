@@ -28,13 +28,14 @@ use Rattle.resolving_walk.specs.Walk.{Walked, walk}
 use Rattle.resolving_walk.specs.Same.{walkedOf, plan-walk, resultHead, result-pieces}
 use Rattle.resolving_step.specs.declared.Walk.{Walk}
 use Rattle.resolving_step.specs.Arms.{empty-stands}
-use Rattle.resolving_passes.specs.declared.Room.{Room}
+use Rattle.room.specs.Room.{spent, whole}
+use Rattle.room.specs.declared.Room.{Room}
 use Rattle.resolving_passes.specs.declared.Dry.{Dry}
 use Rattle.resolving_passes.specs.declared.Dry.the-variants.{Fits, Short, Wrong}
-use Rattle.resolving_passes.specs.Passes.{spent, dryOf, Starts, Begins, DryIs, answerBytes}
+use Rattle.resolving_passes.specs.Passes.{dryOf, Starts, Begins, DryIs, answerBytes}
 use Rattle.resp3_element.specs.declared.Cursor.{Cursor}
 use Rattle.caching_cmd.specs.Parts.{startAt}
-use Rattle.caching_cmd.specs.Settle.{wholeRoom, dryFor, dry-says, Many}
+use Rattle.caching_cmd.specs.Settle.{dryFor, dry-says, Many}
 use Rattle.caching_cmd.specs.Laws.{PlanRead, plan-read, starts, many-answers}
 use Rattle.served.specs.declared.ServedAnswer.{ServedAnswer}
 use Rattle.served.specs.declared.ServedAnswer.the-variants.{Answered, NeedsReplies, Refused}
@@ -226,11 +227,11 @@ module _ (plan list : Bytes) (ok : isPlan plan ≡ true) (l : list ≡ noReplies
     buffer-is = rw decoded
 
     module _ (transaction : Bool) (k : ℕ) (room : Room) (d : Dry) (a : transaction ≡ p .transaction) (b : k ≡ p .commands)
-        (q : room ≡ spent (wholeRoom (length buffer)) (length (resultHead transaction k))) (f : DryIs plan list c All 0 room d) where
+        (q : room ≡ spent (whole (length buffer)) (length (resultHead transaction k))) (f : DryIs plan list c All 0 room d) where
       dry-is : d ≡ dryFor (p .transaction) (unreplied answers) (length buffer)
       dry-is =
           f (p .nodes) none none here
-          ∙ ap₂ dryOf (q ∙ ap₂ (λ (t : Bool) (i : ℕ). spent (wholeRoom (length buffer)) (length (resultHead t i))) a b) walked
+          ∙ ap₂ dryOf (q ∙ ap₂ (λ (t : Bool) (i : ℕ). spent (whole (length buffer)) (length (resultHead t i))) a b) walked
           ∙ dry-says (p .transaction) (unreplied answers) (length buffer) (p .commands) many
 
       -- some command needs replies

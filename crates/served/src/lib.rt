@@ -2,9 +2,9 @@
 // some command needs replies, that is said. specs/Served.antt says what comes out, specs/Same.antt that resolving would answer the same.
 use config::CacheMode;
 use resolving_passes::Dry;
-use resolving_passes::Room;
 use resolving_step::Walk;
 use resp3_element::Cursor;
+use room::Room;
 ghost use mathlib.Core.Path.{_≡_};
 ghost use mathlib.Core.Bool.{true};
 ghost use Prim.Native.Nat.{_≤_};
@@ -60,7 +60,7 @@ fn served_checked<'a>(plan: &'a [u8], none: &'a [u8], answer: &mut [u8]) -> Serv
         left: answer.len(),
         short: false,
     };
-    let room = resolving_passes::spend(whole, caching_cmd::head_len(transaction, n));
+    let room = room::spend(whole, caching_cmd::head_len(transaction, n));
     match resolving_passes::dry_pass(plan, none, start, CacheMode::All, 0, room) {
         Dry::Wrong => ServedAnswer::NeedsReplies,
         Dry::Short => ServedAnswer::Refused(config::SHORT_ANSWER),

@@ -5,16 +5,18 @@
 use command_key::CommandKey;
 use config::Now;
 use shard::Position;
+use statistics::Statistics;
 ghost use mathlib.Core.Path.{_≡_};
 ghost use lib.ListN.{length};
 ghost use Rattle.buffer.specs.Same.{same};
+ghost use Rattle.statistics.specs.OfBook.{adding};
 ghost use Rattle.book.specs.Book.{Entry, Item, Row};
 ghost use Rattle.arena.specs.Layout.{encShard};
 ghost use Rattle.arena.specs.Place.{shardPlace};
 ghost use Rattle.command_key.specs.Key.{keyBytes, KeyIn};
 ghost use Rattle.shard.specs.Holds.{Holds, Shard, Stands, ItemAt};
 ghost use Rattle.shard_lookup.specs.Entries.{entrySize, entryOf, EntryStands, EntryAt};
-ghost use Rattle.shard_lookup.specs.Looked.{Reads, lookupOn, Told, BeginsAt};
+ghost use Rattle.shard_lookup.specs.Looked.{Reads, lookupOn, addsBy, Told, BeginsAt};
 
 // The bytes that the entry at `at` takes.
 pub fn entry_len(s: &[u8], at: usize) -> usize
@@ -93,6 +95,16 @@ pub enum Looked {
     Hit { from: usize, to: usize },
     // No value; with the number of entries that are dropped.
     Miss(usize),
+}
+
+// The counts after a lookup that was answered so.
+pub fn counted(counts: Statistics, looked: Looked) -> Statistics
+    ensures { λ r. ⌜ r ≡ adding counts (addsBy looked) ⌝ }
+{
+    match looked {
+        Looked::Hit { from: _, to: _ } => counts.increase_each(1, 0, 0),
+        Looked::Miss(n) => counts.increase_each(0, 1, n as u64),
+    }
 }
 
 // What `lookup_in` would answer; nothing changes, and a hit's bytes are those of the shard as it is.

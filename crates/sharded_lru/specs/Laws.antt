@@ -20,7 +20,7 @@ use Rattle.arena.specs.Layout.{encShard, encode}
 use Rattle.arena.specs.Length.{length-shard}
 use Rattle.arena.specs.Around.{shard-put}
 use Rattle.arena.specs.Tests.{FineRow, WellFormed}
-use Rattle.arena.specs.Image.{Sized}
+use Rattle.arena.specs.Image.{Sized, encode-injective}
 use Rattle.arena.specs.Sizes.{setupOf}
 use Rattle.shard.specs.Holds.{Holds}
 use Rattle.shard.specs.FromImage.{image-holds}
@@ -98,3 +98,8 @@ module _ (g : Settings) (s : Bytes) (rows : ℕ → Row) (w : Lent g s rows) whe
                 ∙ ap (λ (t : Bytes). put t (i * g .bytes) (encShard (g .bytes) row)) (w .image .bytes);
           };
         }
+
+-- an arena holds one book's rows
+pub lent-same : {g : Settings} {a : Bytes} {x y : ℕ → Row} → Lent g a x → Lent g a y → x ≡ y
+lent-same {g} {a} {x} {y} v w =
+    encode-injective isValue (setupNow g) (length a) (sized g a x v) x y (v .image .formed) (w .image .formed) (v .image .bytes ∙ sym (w .image .bytes))

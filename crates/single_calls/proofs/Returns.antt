@@ -1,11 +1,10 @@
 -- Setup's two ways out, as laws of its definitions. Assumes nothing.
 use mathlib.Core.Path.{_≡_, refl, sym, ap, _∙_}
 use Prim.Native.Nat.{ℕ, _-_}
-use mathlib.Core.List.{[], append-nil}
 use native.Mathlib.Omega.{arith}
 use lib.ListN.{length, replicate, length-replicate}
 use Rattle.buffer.specs.Same.{Bytes}
-use Rattle.buffer.specs.Part.{put, put-at}
+use Rattle.buffer.specs.Part.{put, put-all}
 use Rattle.buffer.specs.Zero.{zeroed}
 use Rattle.config.specs.Causes.{badConfig}
 use Rattle.config.specs.declared.CheckedConfig.{CheckedConfig}
@@ -13,10 +12,6 @@ use Rattle.config.specs.declared.CheckedConfig.the-variants.{Fine, Refused as B
 use Rattle.config.specs.declared.Settings.{Settings}
 use Rattle.single_calls.specs.Setup.{setUp, freshArena}
 use Rattle.single_calls.specs.declared.NewCache.the-variants.{Fresh, Refused}
-
--- what is put over a whole list takes its place
-put-all : (s bs : Bytes) → length s ≡ length bs → put s 0 bs ≡ bs
-put-all s bs e = ap (λ (z : Bytes). put z 0 bs) (sym (append-nil s)) ∙ put-at [] s [] bs 0 refl e ∙ append-nil bs
 
 -- refused: the number, and the arena as it was
 pub refused : (q : CheckedConfig) (s : Bytes) → q ≡ BadConfig → (Refused badConfig ≡ setUp q) × (s ≡ freshArena q s)

@@ -13,6 +13,7 @@ use Rattle.config.specs.Config.{checked}
 use Rattle.config.specs.declared.Settings.{Settings}
 use Rattle.config.specs.declared.CheckedConfig.{CheckedConfig}
 use Rattle.config.specs.declared.CheckedConfig.the-variants.{Fine, Refused as BadConfig}
+use Rattle.statistics.specs.OfBook.{countsOf, adding, adding-counts}
 use Rattle.statistics.specs.declared.Statistics.{Statistics}
 use Rattle.resp3.specs.Ends.{isValue}
 use Rattle.book.specs.Book.{Setup, Row, Counts, plus, count, Answer, stored, noSpace as spaceless, invalidated, Keyed, lookup, on, put, effect}
@@ -39,7 +40,7 @@ use Rattle.call_entry.specs.Entered.{noCause, holding}
 use Rattle.single_calls.specs.Single.{Return, refusedAs, overlong, wrongBytes, numberOf, servedBy, calledOn, imaged, singleCall}
 use Rattle.single_calls.specs.Place.{placeIn, servedAt, placeLeft, placeUnder, lookupPlace}
 use Rattle.single_calls.specs.AnswerLaws.{done-is, refused-is, hit-is, miss-is, denied-is}
-use Rattle.single_calls.specs.Answers.{countsOf, Left, LookupLeft, InvalidationLeft, moreOf, lookedUp}
+use Rattle.single_calls.specs.Answers.{Left, LookupLeft, InvalidationLeft, lookedUp}
 
 -- ---- causes 1 and 9
 
@@ -121,11 +122,6 @@ no-place size mode ttl k c t u n h g e = go (checked size mode ttl (length (h .a
 
 -- ---- the book's call
 
--- what the counts become is what the book counts
-more-counts : (c : Statistics) (h m n : ℕ) → countsOf (moreOf c h m n) ≡ count (countsOf c) (plus h m n)
-unfolding count
-more-counts c h m n = refl
-
 -- a lookup of command key c left the arena u and was answered r
 abbrev Gets : Settings → Bytes → (ℕ → Row) → Bytes → ℕ → ℕ → Looked → Bytes → Type 0
 Gets g u rows k t e r c =
@@ -206,7 +202,7 @@ module _ (g : Settings) (s u : Bytes) (rows : ℕ → Row) (q : Keyed) (next : �
           place = i;
           within = (t .0, t .1);
           arena = arena-is (countsOf c);
-          counts = more-counts c 1 0 0 ∙ counts-are (countsOf c) _ (t .3);
+          counts = adding-counts c _ ∙ counts-are (countsOf c) _ (t .3);
         }
     lookup-left k b (Missed m) t l =
         let n = cause-is (countsOf c) _ (t .0) in
@@ -218,17 +214,17 @@ module _ (g : Settings) (s u : Bytes) (rows : ℕ → Row) (q : Keyed) (next : �
           place = no-place-is (countsOf c) k b v;
           within = tt;
           arena = arena-is (countsOf c);
-          counts = more-counts c 0 1 m ∙ counts-are (countsOf c) _ (t .1);
+          counts = adding-counts c _ ∙ counts-are (countsOf c) _ (t .1);
         }
 
     -- an invalidation, by the entries dropped
     pub invalidation-left : (m : ℕ) → effectIn (setupNow g) q rows .answer ≡ invalidated → effectIn (setupNow g) q rows .adds ≡ plus 0 0 m
-        → InvalidationLeft (here (countsOf c)) u (record { answer = Done; counts = moreOf c 0 0 m })
+        → InvalidationLeft (here (countsOf c)) u (record { answer = Done; counts = adding c (plus 0 0 m) })
     unfolding numberOf
     invalidation-left m a b =
         record {
           answer = done-is (here (countsOf c)) (cause-is (countsOf c) _ a);
           cause = cause-is (countsOf c) _ a;
           arena = arena-is (countsOf c);
-          counts = more-counts c 0 0 m ∙ counts-are (countsOf c) _ b;
+          counts = adding-counts c _ ∙ counts-are (countsOf c) _ b;
         }

@@ -7,9 +7,9 @@ use lib.ListN.{length}
 use lib.Dec.{eqb}
 use Rattle.buffer.specs.Same.{Bytes}
 use Rattle.buffer.specs.Part.{part}
-use Rattle.statistics.specs.Counts.{moreHit, moreMiss, moreInvalidate}
+use Rattle.statistics.specs.OfBook.{countsOf, adding}
 use Rattle.statistics.specs.declared.Statistics.{Statistics}
-use Rattle.book.specs.Book.{Counts}
+use Rattle.shard_lookup.specs.Looked.{addsBy}
 use Rattle.shard_lookup.specs.declared.Looked.{Looked}
 use Rattle.shard_lookup.specs.declared.Looked.the-variants.{Hit as Got, Miss as Missed}
 use Rattle.single_calls.specs.declared.Answered.{Answered}
@@ -20,10 +20,6 @@ use Rattle.single_calls.specs.declared.LookedUp.{LookedUp}
 use Rattle.single_calls.specs.declared.Invalidated.{Invalidated}
 use Rattle.call_entry.specs.Entered.{noCause}
 use Rattle.single_calls.specs.Single.{Return}
-
--- the three counts as the book has them
-abbrev pub countsOf : Statistics → Counts
-countsOf s = record { hits = s .hit; misses = s .miss; invalidates = s .invalidate }
 
 -- the cause's number in a store's or an invalidation's answer
 abbrev pub answerNumber : Answered → ℕ
@@ -67,14 +63,10 @@ servedAs (some v) at = Hit at (at + length v)
 abbrev pub foundOf : Return → ℕ → Found
 foundOf d at = cond (eqb (d .cause) noCause) (servedAs (d .value) at) (Denied (d .cause))
 
--- the counts with so many more of each, wrapping: the book's `count`
-abbrev pub moreOf : Statistics → ℕ → ℕ → ℕ → Statistics
-moreOf s hits misses invalidates = moreInvalidate (moreMiss (moreHit s hits) misses) invalidates
-
 -- what a lookup returns where the shards answered `found`: the answer, and the counts with a hit more, or a miss and the entries dropped
 abbrev pub lookedUp : Statistics → Looked → LookedUp
-lookedUp s (Got from to) = record { found = Hit from to; counts = moreOf s 1 0 0 }
-lookedUp s (Missed n) = record { found = Miss; counts = moreOf s 0 1 n }
+lookedUp s (Got from to) = record { found = Hit from to; counts = adding s (addsBy (Got from to)) }
+lookedUp s (Missed n) = record { found = Miss; counts = adding s (addsBy (Missed n)) }
 
 -- its places are within n bytes
 abbrev pub FoundIn : ℕ → Found → Type 0

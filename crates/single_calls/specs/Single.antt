@@ -7,7 +7,7 @@ use mathlib.Core.Option.{Option, none, some}
 use lib.ListN.{length}
 use lib.Dec.{ltb}
 use Rattle.buffer.specs.Same.{Bytes}
-use Rattle.config.specs.Limits.{maxKey, maxBytes}
+use Rattle.config.specs.Limits.{maxKey, maxCommandKey, maxBytes}
 use Rattle.config.specs.Causes.{tooLong, badReply, noSpace}
 use Rattle.config.specs.Config.{checked}
 use Rattle.resp3.specs.Ends.{isValue}
@@ -32,7 +32,7 @@ refusedAs n h = record { cause = n; value = none; held = h }
 
 -- cause 3 (C3), of so many bytes of key, command key and value; a call that has no command key or no value counts none for it
 abbrev pub overlongBy : ℕ → ℕ → ℕ → Bool
-overlongBy key command value = ltb maxKey key || ltb maxBytes command || ltb maxBytes value
+overlongBy key command value = ltb maxKey key || ltb maxCommandKey command || ltb maxBytes value
 
 unfoldable pub overlong : Keyed → Bool
 overlong (lookup k c t e) = overlongBy (length k) (length c) 0

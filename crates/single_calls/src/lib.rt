@@ -12,13 +12,14 @@ ghost use mathlib.Core.Path.{_≡_};
 ghost use Prim.Native.Nat.{ℕ};
 ghost use lib.ListN.{length};
 ghost use Rattle.config.specs.Config.{checked};
+ghost use Rattle.statistics.specs.OfBook.{countsOf};
 ghost use Rattle.book.specs.Book.{Row, Counts, lookup, store, invalidate};
 ghost use Rattle.sharded_lru.specs.Lent.{setupNow, Lent, Arena};
 ghost use Rattle.single_calls.specs.Setup.{setUp, freshArena};
 ghost use Rattle.single_calls.specs.Single.{overlongBy, imaged, singleCall};
 ghost use Rattle.single_calls.specs.Place.{placeLeft, lookupPlace};
 ghost use Rattle.call_entry.specs.Entered.{holding};
-ghost use Rattle.single_calls.specs.Answers.{countsOf, Left, LookupLeft, InvalidationLeft, moreOf, lookedUp};
+ghost use Rattle.single_calls.specs.Answers.{Left, LookupLeft, InvalidationLeft, lookedUp};
 
 // What stands for a cause's number where no cause refuses a call.
 pub const NO_CAUSE: u64 = 0;
@@ -81,34 +82,25 @@ fn too_long(key: usize, command: usize, value: usize) -> bool
     if config::MAX_KEY < key {
         return true;
     }
-    if config::MAX_BYTES < command {
+    if config::MAX_COMMAND_KEY < command {
         return true;
     }
     config::MAX_BYTES < value
-}
-
-// The counts with so many more of each.
-fn more(counts: Statistics, hits: u64, misses: u64, invalidates: u64) -> Statistics
-    ensures { λ r. ⌜ r ≡ moreOf counts hits misses invalidates ⌝ }
-{
-    counts
-        .increase_hit(hits)
-        .increase_miss(misses)
-        .increase_invalidate(invalidates)
 }
 
 // A lookup's answer and the counts after it.
 fn counted(counts: Statistics, found: Looked) -> LookedUp
     ensures { λ r. ⌜ r ≡ lookedUp counts found ⌝ }
 {
+    let sum = shard_lookup::counted(counts, found);
     match found {
         Looked::Hit { from, to } => LookedUp {
             found: Found::Hit { from, to },
-            counts: more(counts, 1, 0, 0),
+            counts: sum,
         },
-        Looked::Miss(n) => LookedUp {
+        Looked::Miss(_) => LookedUp {
             found: Found::Miss,
-            counts: more(counts, 0, 1, n as u64),
+            counts: sum,
         },
     }
 }
@@ -233,7 +225,7 @@ fn invalidate_admitted(arena: &mut [u8], g: Settings, key: &[u8], counts: Statis
     let n = sharded_lru::invalidate(arena, g, key);
     Invalidated {
         answer: Answered::Done,
-        counts: more(counts, 0, 0, n as u64),
+        counts: counts.increase_each(0, 0, n as u64),
     }
 }
 

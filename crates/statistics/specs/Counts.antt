@@ -17,8 +17,12 @@ abbrev pub moreInvalidate : Statistics → ℕ → Statistics
 moreInvalidate s n = record { hit = s .hit; miss = s .miss; invalidate = wrap (s .invalidate + n) }
 
 -- so many more of each, wrapping
+abbrev pub moreOf : Statistics → ℕ → ℕ → ℕ → Statistics
+moreOf s hits misses invalidates = moreInvalidate (moreMiss (moreHit s hits) misses) invalidates
+
+-- as many more as other counts say
 abbrev pub more : Statistics → Statistics → Statistics
-more s n = moreInvalidate (moreMiss (moreHit s (n .hit)) (n .miss)) (n .invalidate)
+more s n = moreOf s (n .hit) (n .miss) (n .invalidate)
 
 -- the counts as a reader is shown them: each under its own name
 abbrev pub reading : Statistics → CacheStatistics

@@ -1,7 +1,7 @@
 // The counts of hits, misses and invalidated entries: they wrap at 64 bits (specs/Counts.antt). After statistics.rs, whose atomics are here a state that goes
 // in and comes back, and a record that the caller lends: an increase of a lent record is thin over the one by value.
 ghost use mathlib.Core.Path.{_≡_};
-ghost use Rattle.statistics.specs.Counts.{moreHit, moreMiss, moreInvalidate, more, reading};
+ghost use Rattle.statistics.specs.Counts.{moreHit, moreMiss, moreInvalidate, moreOf, more, reading};
 
 // The counts as they are kept.
 #[repr(C)]
@@ -48,6 +48,15 @@ impl Statistics {
             miss: self.miss,
             invalidate: std::num::wrapping_add_u64(self.invalidate, val),
         }
+    }
+
+    // So many more of each.
+    pub fn increase_each(self, hits: u64, misses: u64, invalidates: u64) -> Statistics
+        ensures { λ r. ⌜ r ≡ moreOf self hits misses invalidates ⌝ }
+    {
+        self.increase_hit(hits)
+            .increase_miss(misses)
+            .increase_invalidate(invalidates)
     }
 }
 

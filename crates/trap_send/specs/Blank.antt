@@ -31,7 +31,7 @@ use Rattle.planning_outcome.specs.declared.Served.the-variants.{Values}
 use Rattle.planning_outcome.specs.declared.CacheableCommand.the-variants.{Single, Multiple}
 use Rattle.planning_outcome.specs.declared.PrepCacheItem.the-variants.{Cached, NotCached, NotCacheable}
 use Rattle.planning_outcome.specs.declared.CachingResult.the-variants.{Item, Ignored}
-use Rattle.planning_look_up.specs.Finds.{lent-same}
+use Rattle.sharded_lru.specs.Laws.{lent-same}
 use Rattle.planning_places.specs.Source.{keysAt, KeysIn}
 use Rattle.planning_places.specs.declared.Source.{Source}
 use Rattle.planning_places.specs.declared.Source.the-variants.{Keys}

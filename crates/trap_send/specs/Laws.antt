@@ -27,9 +27,9 @@ use Rattle.sharded_lru.specs.declared.Admitted.the-variants.{Admits, Refused}
 use Rattle.planning_outcome.specs.Sizes.{allSent}
 use Rattle.planning_send_len.specs.Wrapped.{startBytes, endBytes}
 use Rattle.trap_send.specs.Walk.{Fits}
-use Rattle.planning_dry_pass.specs.Room.{spent, whole}
+use Rattle.room.specs.Room.{spent, whole}
 use Rattle.planning_dry_pass.specs.Dry.{Planable}
-use Rattle.planning_dry_pass.specs.declared.Room.{Room}
+use Rattle.room.specs.declared.Room.{Room}
 use Rattle.single_calls.specs.Setup.{freshArena}
 use Rattle.cache_manager.specs.Pipeline.{recorded, admittedTo, planCall}
 use Rattle.cache_manager.specs.Planned.{planBytes, sendBytes, sendNow, late-refused, short-refused, all-written}

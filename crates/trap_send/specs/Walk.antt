@@ -20,9 +20,9 @@ use Rattle.sharded_lru.specs.Lent.{setupNow, Lent, Arena}
 use Rattle.planning_outcome.specs.Sizes.{sentFor, allSent}
 use Rattle.planning_send_len.specs.Wrapped.{startBytes, endBytes}
 use Rattle.cache_manager.specs.Planned.{sendBytes}
-use Rattle.planning_dry_pass.specs.Room.{spent, spent-none, spent-more}
+use Rattle.room.specs.Room.{spent, spent-none, spent-more}
 use Rattle.planning_dry_pass.specs.Dry.{Planable, planable-next}
-use Rattle.planning_dry_pass.specs.declared.Room.{Room}
+use Rattle.room.specs.declared.Room.{Room}
 use Rattle.planning.specs.Ask.{ask}
 
 -- ---- what is written by the rows that the arena holds

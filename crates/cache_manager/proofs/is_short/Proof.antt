@@ -5,8 +5,8 @@ use lib.ListN.{length}
 use Rattle.cursor.specs.At.{commandsAt}
 use Rattle.sharded_lru.specs.Lent.{setupNow}
 use Rattle.planning_outcome.specs.Sizes.{allNodes, allSent}
-use Rattle.planning_dry_pass.specs.Room.{spent}
-use Rattle.planning_dry_pass.specs.declared.Room.{Room}
+use Rattle.room.specs.Room.{spent}
+use Rattle.room.specs.declared.Room.{Room}
 use Rattle.cache_manager.specs.Passed as laws
 use borrow.Author.Needs.{needs}
 use Rattle.cache_manager.proofs.is_short.Statement.{statement}

@@ -1,7 +1,7 @@
 -- `cache_manager::plan_record` meets its contract. Assumes nothing.
 use mathlib.Core.Path.{refl, sym, _∙_}
 use Rattle.arena.specs.Sequence.{bookOf}
-use Rattle.planning_look_up.specs.Looks.{countsOf}
+use Rattle.statistics.specs.OfBook.{countsOf}
 use Rattle.call_entry.specs.Entered.{holding}
 use Rattle.cache_manager.specs.Fit.{fit}
 use Rattle.cache_manager.specs.Records as laws

@@ -4,7 +4,7 @@ use denote.Ref.{now}
 use Rattle.book.specs.Book.{Counts, lookup}
 use Rattle.single_calls.specs.Single.{singleCall}
 use Rattle.single_calls.specs.PlaceLaws.{place-alike}
-use Rattle.single_calls.specs.Answers.{countsOf}
+use Rattle.statistics.specs.OfBook.{countsOf}
 use Rattle.caching.specs.Exported.{startOf}
 use Rattle.caching.proofs.Parts.{start-of, part-there, part-at}
 use Rattle.caching.proofs.More.{single-more}

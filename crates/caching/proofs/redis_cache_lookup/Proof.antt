@@ -49,7 +49,7 @@ use Rattle.statistics.proofs.Statistics as T
 use Rattle.statistics.proofs.increase.Symbol as increase-def
 use Rattle.statistics.proofs.increase.Symbol.{name as #increase}
 use Rattle.statistics.proofs.increase.Met as increase-thm
-use Rattle.single_calls.specs.Answers.{countsOf}
+use Rattle.statistics.specs.OfBook.{countsOf}
 use Rattle.caching.specs.declared.LookupAdded.{LookupAdded}
 use Rattle.caching.specs.Exported.{lookupBy}
 use Rattle.caching.specs.Place.{placeBy}

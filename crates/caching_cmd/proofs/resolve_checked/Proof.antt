@@ -1,4 +1,5 @@
 -- `caching_cmd::resolve_checked` meets its contract. Assumes nothing.
+use Rattle.resp3.specs.Law.{value-means}
 use Rattle.caching_cmd.specs.Laws as law
 use Rattle.caching_cmd.specs.Listed as listed
 use Rattle.caching_cmd.specs.Heads as heads
@@ -72,7 +73,7 @@ returns c =
     let f = law.found-as _ _ _ _ _ (resp.decode (now (x .replies))) (c .before .before .before .before .before .before .before .is-transaction .ensures)
     (c .before .before .before .before .enum-told .given .1)
     (c .before .before .before .before .before .before .find-list .ensures _
-    (law.value-means _ (c .before .before .before .before .before .before .before .before .before .before .before .before .pre .2))) in
+    (value-means _ (c .before .before .before .before .before .before .before .before .before .before .before .before .pre .2))) in
     settle.settle-none _ _ _ _ _ _ _ (listed.none-found (now (x .plan)) _ (x .g .mode) (x .clock) (resp.decode (now (x .replies))) f)
     (heads.all-zeroed _ _ (c .before .before .fill-zero .ensures))
 

@@ -1,5 +1,6 @@
 -- `plan_check::start_ok` meets its contract. Assumes nothing.
 use mathlib.Core.Path.{sym, _∙_}
+use native.Mathlib.Omega.{arith}
 use borrow.Author.Tests.{not-true, not-false}
 use Rattle.resp3.specs.Value.{encode}
 use Rattle.plan_check.specs.Paths.{start-short, start-flags, start-null, start-count}
@@ -16,17 +17,15 @@ shared-slice-read-if2 c = search needs
 returns-2 : tie.Need-returns-2
 returns-2 c = let a = c .before .before .before .before .args in sym (start-flags (a .plan .now) (c .if2 .taken))
 
-slice-aggregate-same-at : tie.Need-slice-aggregate-same-at
-slice-aggregate-same-at c = search needs
-
-same-at-requires : tie.Need-same-at-requires
-same-at-requires c κs = search needs
+null-at-requires : tie.Need-null-at-requires
+unfolding encode
+null-at-requires c κs = omega arith
 
 returns-3 : tie.Need-returns-3
 unfolding encode
 returns-3 c =
-    let a = c .before .before .before .before .before .before .before .args in
-    sym (start-null (a .plan .now) (sym (c .before .same-at .ensures) ∙ not-true _ (c .if3 .taken)))
+    let a = c .before .before .before .before .before .before .args in
+    sym (start-null (a .plan .now) (sym (c .before .null-at .ensures) ∙ not-true _ (c .if3 .taken)))
 
 read-u32-requires : tie.Need-read-u32-requires
 read-u32-requires c κs = search needs
@@ -37,9 +36,9 @@ cast-result c = search needs
 returns-4 : tie.Need-returns-4
 unfolding encode
 returns-4 c =
-    let a = c .before .before .before .before .before .before .before .before .args in
-    start-count (a .plan .now) _ (c .before .before .before .before .before .before .if1 .left) (c .before .before .before .before .if2 .left)
-    (sym (c .before .before .same-at .ensures) ∙ not-false _ (c .before .if3 .left)) (c .read-u32 .ensures)
+    let a = c .before .before .before .before .before .before .before .args in
+    start-count (a .plan .now) _ (c .before .before .before .before .before .if1 .left) (c .before .before .before .if2 .left)
+    (sym (c .before .before .null-at .ensures) ∙ not-false _ (c .before .if3 .left)) (c .read-u32 .ensures)
 
 pub start-ok-spec : {M : Type 1} → statement M
 start-ok-spec =
@@ -48,8 +47,7 @@ start-ok-spec =
     returns
     shared-slice-read-if2
     returns-2
-    slice-aggregate-same-at
-    same-at-requires
+    null-at-requires
     returns-3
     read-u32-requires
     cast-result

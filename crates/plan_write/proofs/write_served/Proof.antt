@@ -3,6 +3,7 @@ use mathlib.Core.Path.{ap, _∙_}
 use Prim.Native.Nat.{_+_}
 use Rattle.buffer.specs.Same.{Bytes}
 use Rattle.buffer.specs.Part.{put}
+use Rattle.planning.specs.Plan.{servedKind}
 use mathlib.Core.List.{[]}
 use native.Mathlib.Omega.{arith}
 use Rattle.plan_write.specs.Pieces.{length-node}
@@ -15,13 +16,13 @@ cast-write-node-head : tie.Need-cast-write-node-head
 cast-write-node-head c = search needs
 
 write-node-head-requires : tie.Need-write-node-head-requires
-write-node-head-requires c κs = let l = length-node 1 (c .before .before .before .args .value .now) [] 0 in omega arith
+write-node-head-requires c κs = let l = length-node servedKind (c .before .before .before .args .value .now) [] 0 in omega arith
 
 add-copy-to : tie.Need-add-copy-to
 add-copy-to c = search needs
 
 copy-to-requires : tie.Need-copy-to-requires
-copy-to-requires c κs = let l = length-node 1 (c .before .before .before .before .before .before .before .args .value .now) [] 0 in omega arith
+copy-to-requires c κs = let l = length-node servedKind (c .before .before .before .before .before .before .before .args .value .now) [] 0 in omega arith
 
 add-result : tie.Need-add-result
 add-result c = search needs
@@ -35,7 +36,7 @@ same-length c = search needs
 returns : tie.Need-returns
 returns c =
     let a = c .before .before .before .before .before .before .before .before .before .before .args in
-    let l = length-node 1 (a .value .now) [] 0 in (
+    let l = length-node servedKind (a .value .now) [] 0 in (
       omega arith,
       c .before .before .copy-to .ensures ∙ ap (λ (z : Bytes). put z (a .to + 20) (a .value .now))
           (c .before .before .before .before .before .before .write-node-head .ensures)

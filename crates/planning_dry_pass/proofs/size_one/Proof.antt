@@ -6,6 +6,7 @@ use Rattle.planning.specs.Outcome.{wholeKey}
 use Rattle.plan_write.specs.Pieces.{range-short}
 use Rattle.sharded_lru.specs.Lent.{setupNow}
 use Rattle.planning_outcome.specs.Result.{placeOn}
+use Rattle.planning_outcome.specs.Places.{told-hit, told-miss}
 use Rattle.planning_dry_pass.specs.Size as laws
 use borrow.Author.Needs.{needs}
 use Rattle.planning_dry_pass.proofs.size_one.Statement.{statement}
@@ -22,7 +23,7 @@ sub-t15 c =
     let q = c .before .before .before .before .before .before .before .pre .4 in
     let a = c .before .before .before .before .before .before .before .args in
     let w = wholeKey (commandOf (a .bytes .now) (a .head)) (rangeBytes (a .bytes .now) (a .key)) in
-    let h = laws.told-value (a .arena .now) w (placeOn (setupNow (a .g)) (q .rows) (a .when .clock) (a .when .epoch) w)
+    let h = told-hit (a .arena .now) w (placeOn (setupNow (a .g)) (q .rows) (a .when .clock) (a .when .epoch) w)
     (c .before .before .before .peek-one .result) _ _ (c .before .from .given .1) (c .before .before .before .peek-one .ensures (q .rows) (q .lent)) in
     h .0
 
@@ -31,7 +32,7 @@ add-t16 c =
     let q = c .before .before .before .before .before .before .before .pre .4 in
     let a = c .before .before .before .before .before .before .before .args in
     let w = wholeKey (commandOf (a .bytes .now) (a .head)) (rangeBytes (a .bytes .now) (a .key)) in
-    let h = laws.told-value (a .arena .now) w (placeOn (setupNow (a .g)) (q .rows) (a .when .clock) (a .when .epoch) w)
+    let h = told-hit (a .arena .now) w (placeOn (setupNow (a .g)) (q .rows) (a .when .clock) (a .when .epoch) w)
     (c .before .before .before .peek-one .result) _ _ (c .before .from .given .1) (c .before .before .before .peek-one .ensures (q .rows) (q .lent)) in
     let e = h .1 in
     let m = q .lent .largest in
@@ -65,7 +66,7 @@ returns c =
     let a = c .before .before .before .before .before .before .before .args in
     let w = wholeKey (commandOf (a .bytes .now) (a .head)) (rangeBytes (a .bytes .now) (a .key)) in
     λ rows o x.
-    let h = laws.told-value (a .arena .now) w (placeOn (setupNow (a .g)) rows (a .when .clock) (a .when .epoch) w) (c .before .before .before .peek-one .result) _ _
+    let h = told-hit (a .arena .now) w (placeOn (setupNow (a .g)) rows (a .when .clock) (a .when .epoch) w) (c .before .before .before .peek-one .result) _ _
     (c .before .from .given .1) (c .before .before .before .peek-one .ensures rows o) in
     laws.size-hit (a .g .mode) _ _ x _ _ (h .2) (h .3)
 
@@ -74,7 +75,7 @@ returns-2 c =
     let a = c .before .before .before .before .before .before .before .before .before .before .args in
     let w = wholeKey (commandOf (a .bytes .now) (a .head)) (rangeBytes (a .bytes .now) (a .key)) in
     λ rows o x.
-    let e = laws.told-waits (a .arena .now) w (placeOn (setupNow (a .g)) rows (a .when .clock) (a .when .epoch) w)
+    let e = told-miss (a .arena .now) w (placeOn (setupNow (a .g)) rows (a .when .clock) (a .when .epoch) w)
     (c .before .before .before .before .before .before .peek-one .result) _ (c .before .before .before .before .enum-told .given .1)
     (c .before .before .before .before .before .before .peek-one .ensures rows o) in
     laws.size-miss (a .g .mode) (a .bytes .now) (a .head) (a .key) _ x _ _ _ _ e (c .before .before .before .bytes-in .ensures)

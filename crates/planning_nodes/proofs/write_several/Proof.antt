@@ -6,6 +6,7 @@ use Rattle.plan_write.specs.Pieces.{length-node}
 use Rattle.planning_places.specs.Pieces.{placesNow}
 use Rattle.planning_nodes.specs.Prepared as laws
 use borrow.Author.Needs.{needs}
+use Rattle.planning.specs.Plan.{allServedKind, severalKind}
 use Rattle.planning_nodes.proofs.write_several.Statement.{statement}
 use Rattle.planning_nodes.proofs.write_several.Tie as tie
 
@@ -42,7 +43,7 @@ write-bare-requires c κs =
     let b = laws.several-least (a .expiry) (placesNow (a .g) (q .rows) (a .when .clock) (a .when .epoch) (a .bytes .now) (a .v)) (severalName (a .v .json))
     (pathIn (a .bytes .now) (a .v)) in
     let r = p .3 (q .rows) (q .lent) in
-    let l = length-node 2 [] [] (a .v .keys) in
+    let l = length-node allServedKind [] [] (a .v .keys) in
     let k = c .before .before .before .before .before .before .before .plan .given in
     omega arith
 
@@ -54,7 +55,7 @@ write-bare-requires-2 c κs =
     let b = laws.several-least (a .expiry) (placesNow (a .g) (q .rows) (a .when .clock) (a .when .epoch) (a .bytes .now) (a .v)) (severalName (a .v .json))
     (pathIn (a .bytes .now) (a .v)) in
     let r = p .3 (q .rows) (q .lent) in
-    let l = length-node 4 [] [] (a .v .keys) in
+    let l = length-node severalKind [] [] (a .v .keys) in
     let k = c .before .before .before .before .before .before .before .plan .given in
     omega arith
 

@@ -3,7 +3,8 @@ use mathlib.Core.Path.{refl, sym, _∙_}
 use borrow.Author.Tests.{not-true, not-false}
 use Rattle.sharded_lru.specs.Admit.{admits, enter}
 use Rattle.single_calls.specs.AnswerLaws.{not-admitted-cause}
-use Rattle.push.specs.Calls.{not-admitted, is-admitted, bad-bytes, good-bytes, value-means, one-value, push-refused, push-left}
+use Rattle.resp3.specs.Law.{value-means}
+use Rattle.push.specs.Calls.{not-admitted, is-admitted, bad-bytes, good-bytes, one-value, push-refused, push-left}
 use borrow.Author.Needs.{needs}
 use Rattle.push.proofs.handle_push.Statement.{statement}
 use Rattle.push.proofs.handle_push.Tie as tie

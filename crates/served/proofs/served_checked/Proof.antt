@@ -4,8 +4,7 @@ use Prim.Native.Nat.{ℕ}
 use lib.ListN.{length}
 use denote.Ref.{now}
 use Rattle.config.specs.declared.CacheMode.the-variants.{All}
-use Rattle.resolving_passes.specs.Passes.{spent}
-use Rattle.caching_cmd.specs.Settle.{wholeRoom}
+use Rattle.room.specs.Room.{spent, whole}
 use Rattle.caching_cmd.specs.Laws.{plan-read}
 use Rattle.caching_cmd.specs.Listed as listed
 use Rattle.served.specs.Laws as law
@@ -49,14 +48,14 @@ write-served-requires c κs =
     (c .before .before .before .before .before .before .before .before .before .before .before .before .pre .1) _
     (c .before .before .before .before .before .before .before .before .start-at .ensures) in
     let q = c .before .before .before .before .spend .ensures
-    ∙ ap (λ (h : ℕ). spent (wholeRoom (length (now (x .answer)))) h) (c .before .before .before .before .before .head-len .ensures) in
+    ∙ ap (λ (h : ℕ). spent (whole (length (now (x .answer)))) h) (c .before .before .before .before .before .head-len .ensures) in
     let f = listed.fine-all _ _ _ All 0 _ _ _ _ q (c .before .before .before .dry-pass .ensures) (c .before .enum-told3 .given .1) in
     (b, listed.head-fits _ _ _ All 0 _ _ b f, f)
 
 returns : tie.Need-returns
 returns c =
     let x = c .before .before .before .before .before .before .before .before .before .before .before .args in
-    let q = c .before .before .before .spend .ensures ∙ ap (λ (h : ℕ). spent (wholeRoom (length (now (x .answer)))) h)
+    let q = c .before .before .before .spend .ensures ∙ ap (λ (h : ℕ). spent (whole (length (now (x .answer)))) h)
     (c .before .before .before .before .head-len .ensures) in
     law.needs-them _ _ (c .before .before .before .before .before .before .before .before .before .before .before .pre .0)
     (c .before .before .before .before .before .before .before .before .before .before .before .pre .1) _
@@ -67,7 +66,7 @@ returns c =
 returns-2 : tie.Need-returns-2
 returns-2 c =
     let x = c .before .before .before .before .before .before .before .before .before .before .before .args in
-    let q = c .before .before .before .spend .ensures ∙ ap (λ (h : ℕ). spent (wholeRoom (length (now (x .answer)))) h)
+    let q = c .before .before .before .spend .ensures ∙ ap (λ (h : ℕ). spent (whole (length (now (x .answer)))) h)
     (c .before .before .before .before .head-len .ensures) in
     law.is-short _ _ (c .before .before .before .before .before .before .before .before .before .before .before .pre .0)
     (c .before .before .before .before .before .before .before .before .before .before .before .pre .1) _
@@ -82,7 +81,7 @@ returns-3 : tie.Need-returns-3
 returns-3 c =
     let x = c .before .before .before .before .before .before .before .before .before .before .before .before .before .before .before .args in
     let q = c .before .before .before .before .before .before .before .spend .ensures
-    ∙ ap (λ (h : ℕ). spent (wholeRoom (length (now (x .answer)))) h)
+    ∙ ap (λ (h : ℕ). spent (whole (length (now (x .answer)))) h)
     (c .before .before .before .before .before .before .before .before .head-len .ensures) in
     law.is-written _ _ (c .before .before .before .before .before .before .before .before .before .before .before .before .before .before .before .pre .0)
     (c .before .before .before .before .before .before .before .before .before .before .before .before .before .before .before .pre .1) _

@@ -17,8 +17,8 @@ returns c rows next w = invalidation-refused _ _ refl _ _ _ (too-long _ rows _ _
 invalidate-requires : tie.Need-invalidate-requires
 invalidate-requires c κs = search needs
 
-more-requires : tie.Need-more-requires
-more-requires c κs = search needs
+increase-each-requires : tie.Need-increase-each-requires
+increase-each-requires c κs = search needs
 
 same-length : tie.Need-same-length
 same-length c = search needs
@@ -28,7 +28,7 @@ unfolding overlong wrongBytes effectOn
 returns-2 c rows next w =
     let a = c .before .before .before .before .before .before .before .before .before .args in
     let r = c .before .before .before .invalidate .ensures rows w in
-    rw (c .more .ensures)
+    rw (c .increase-each .ensures)
     (invalidation-left _ _ _ rows _ next (c .before .before .before .invalidate .kept .0) (r .0)
     (sym (c .before .before .before .before .before .before .too-long .ensures) ∙ c .before .before .before .before .before .if1 .left) refl (a .counts)
     (c .before .before .before .invalidate .result) refl (r .1))
@@ -36,4 +36,4 @@ returns-2 c rows next w =
 pub invalidate-admitted-spec : {M : Type 1} → statement M
 invalidate-admitted-spec =
     tie.close
-    (tie.spec too-long-requires returns invalidate-requires more-requires same-length returns-2)
+    (tie.spec too-long-requires returns invalidate-requires increase-each-requires same-length returns-2)

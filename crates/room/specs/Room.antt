@@ -6,7 +6,7 @@ use native.Mathlib.Omega.{arith}
 use lib.Dec.{ltb, leb}
 use borrow.Author.Tests.{leb-true, leb-false, le-leb, lt-leb, lt-ltb, le-ltb}
 use Rattle.buffer.specs.Cases.{byTest}
-use Rattle.planning_dry_pass.specs.declared.Room.{Room}
+use Rattle.room.specs.declared.Room.{Room}
 
 -- the room that is left once n bytes more are taken; or it was short
 unfoldable pub spent : Room → ℕ → Room
@@ -55,7 +55,7 @@ spent-more r m n =
         (λ u. let k = leb-true n 0 u in spent-none (record { left = 0; short = true }) n (omega arith))
         (λ u. spent-short (record { left = 0; short = true }) n (leb-false n 0 u))
 
--- a whole buffer turns out short exactly where it is smaller than what is taken (cause 5)
+-- a whole buffer turns out short exactly where it is smaller than what is taken
 pub whole-short : (room n : ℕ) → spent (whole room) n .short ≡ ltb room n
 whole-short room n =
     byTest (leb n room)

@@ -1,9 +1,9 @@
--- `planning_dry_pass::spend` meets its contract. Assumes nothing.
+-- `room::spend` meets its contract. Assumes nothing.
 use mathlib.Core.Path.{sym}
-use Rattle.planning_dry_pass.specs.Room.{spent-fits, spent-short}
+use Rattle.room.specs.Room.{spent-fits, spent-short}
 use native.Mathlib.Omega.{arith}
-use Rattle.planning_dry_pass.proofs.spend.Statement.{statement}
-use Rattle.planning_dry_pass.proofs.spend.Tie as tie
+use Rattle.room.proofs.spend.Statement.{statement}
+use Rattle.room.proofs.spend.Tie as tie
 
 returns : tie.Need-returns
 returns c = sym (spent-fits _ _ (c .before .if1 .taken))
