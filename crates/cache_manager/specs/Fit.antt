@@ -15,7 +15,7 @@ use Rattle.call_record.specs.declared.Checked.the-variants.{Fine}
 use Rattle.cursor.specs.At.{commandsAt, CommandsIn, recordAt}
 use Rattle.cursor.specs.Laws.{decoded-is}
 use Rattle.planning.specs.Ask.{anyLate}
-use Rattle.dry_pass.specs.Dry.{Planable}
+use Rattle.planning_dry_pass.specs.Dry.{Planable}
 
 pub record Fit (s : Bytes) : Type 0 where
   pub room : 8 ≤ length s

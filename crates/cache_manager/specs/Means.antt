@@ -21,7 +21,7 @@ use Rattle.cursor.specs.At.{recordAt}
 use Rattle.book.specs.Book.{Row, Answer, answers}
 use Rattle.book.specs.Calls.{lookups, ons}
 use Rattle.arena.specs.Sequence.{Held, bookOf}
-use Rattle.planning.specs.Ask.{anyLate}
+use Rattle.planning.specs.Ask.{ask, anyLate}
 use Rattle.planning.specs.Outcome.{wanted, outcomes}
 use Rattle.planning.specs.Sent.{Responses}
 use Rattle.planning.specs.Planning.{Planned, plannedFrom, short, planAnswer, planOn}
@@ -62,9 +62,9 @@ module _ (t e : ℕ) (s d f : Bytes) (h : Held) where
 
   module _ (g : Settings) (rows : ℕ → Row) where
     -- what is written is a run, whatever the lookups answer
-    run-of : (said : List Answer) → SentRun (plannedFrom g t (recordAt s) said)
+    run-of : (said : List Answer) → SentRun (plannedFrom (ask g t) g (recordAt s) said)
     unfolding plannedFrom
-    run-of said = sent-run g (recordAt s) (outcomes g t (recordAt s .commands) said)
+    run-of said = sent-run g (recordAt s) (outcomes (ask g t) (recordAt s .commands) said)
 
     -- a record that is one: causes 4 and 5, or written
     on-record : (said : List Answer) → Way (pipelined t e s d f h g rows (recordAt s) (planAnswer g t (recordAt s) (length d) (length f) said))
@@ -72,13 +72,13 @@ module _ (t e : ℕ) (s d f : Bytes) (h : Held) where
     on-record said =
         byTest (anyLate g t (recordAt s .commands)) (λ l. rw l (refused lateExpiry refl))
         (λ l.
-        byTest (short g t (recordAt s) (length d) (length f) said) (λ c. rw (l, c) (refused shortBuffer refl))
-        (λ c. rw (l, c) (written (plannedFrom g t (recordAt s) said) (run-of said) refl refl)))
+        byTest (short (ask g t) g (recordAt s) (length d) (length f) said) (λ c. rw (l, c) (refused shortBuffer refl))
+        (λ c. rw (l, c) (written (plannedFrom (ask g t) g (recordAt s) said) (run-of said) refl refl)))
 
     -- the check's verdict
     on-check : (x : Checked) → checkDef s ≡ x → Way (judged t e s d f h g rows x)
     unfolding judged planOn
-    on-check Fine p = on-record (answers (setupNow g) (ons (lookups t e (wanted g t (recordAt s .commands)))) (bookOf rows h))
+    on-check Fine p = on-record (answers (setupNow g) (ons (lookups t e (wanted (ask g t) (recordAt s .commands)))) (bookOf rows h))
     on-check (Wrong o) p = wrong o p refl
 
     admitted : Way (admittedTo t e s d f h g rows)

@@ -13,19 +13,20 @@ use Rattle.call_record.specs.Record.{Command}
 use Rattle.cmd.specs.Laws.{Wrote}
 use Rattle.book.specs.Book.{Setup, Book, Row, afterAll}
 use Rattle.book.specs.Calls.{lookups, ons}
+use Rattle.planning.specs.Ask.{ask}
 use Rattle.planning.specs.Outcome.{wanted}
 use Rattle.planning.specs.Sent.{responses}
 use Rattle.plan_write.specs.Pieces.{planHead, length-plan-head}
 use Rattle.plan_write.specs.Wrote.{wrote-both, wrote-is, room-first, room-second}
 use Rattle.statistics.specs.declared.Statistics.{Statistics}
 use Rattle.sharded_lru.specs.Lent.{setupNow, Lent, Arena}
-use Rattle.plan_sizes.specs.Sizes.{allNodes, allSent, sentCount}
-use Rattle.pipeline.specs.Wrapped.{startBytes, endBytes}
-use Rattle.look_up.specs.Looks.{Keeps}
-use Rattle.dry_pass.specs.Room.{spent, whole, spent-more, whole-short}
-use Rattle.dry_pass.specs.declared.Room.{Room as Rest}
-use Rattle.plan_pass.specs.Does.{Does, Room}
-use Rattle.plan_pass.specs.declared.Progress.{Progress}
+use Rattle.planning_outcome.specs.Sizes.{allNodes, allSent, sentCount}
+use Rattle.planning_send_len.specs.Wrapped.{startBytes, endBytes}
+use Rattle.planning_look_up.specs.Looks.{Keeps}
+use Rattle.planning_dry_pass.specs.Room.{spent, whole, spent-more, whole-short}
+use Rattle.planning_dry_pass.specs.declared.Room.{Room as Rest}
+use Rattle.planning_second_pass.specs.Does.{Does, Room}
+use Rattle.planning_second_pass.specs.declared.Progress.{Progress}
 use Rattle.cache_manager.specs.Pipeline.{returnedOf, wrote}
 use Rattle.cache_manager.specs.Planned.{planBytes, sendBytes}
 use Rattle.cache_manager.specs.declared.Written.{Written}
@@ -41,18 +42,18 @@ room-short R n P x y q l =
     ∙ ap (ltb R) (sym (ap length q ∙ length-append x y ∙ ap (λ (z : ℕ). z + length y) l))
 
 module _ (p : Setup) (rows : ℕ → Row) (t e : ℕ) (g : Settings) (b : Bool) (cs : List Command) where
-  pub plan-short : (R : ℕ) → spent (spent (whole R) 8) (length (allNodes p rows t e g cs)) .short ≡ ltb R (length (planBytes p rows t e g b cs))
+  pub plan-short : (R : ℕ) → spent (spent (whole R) 8) (length (allNodes p rows t e (ask g t) cs)) .short ≡ ltb R (length (planBytes p rows t e g b cs))
   unfolding planBytes
-  plan-short R = room-short R 8 _ (planHead b (length cs)) (allNodes p rows t e g cs) refl (length-plan-head b (length cs))
+  plan-short R = room-short R 8 _ (planHead b (length cs)) (allNodes p rows t e (ask g t) cs) refl (length-plan-head b (length cs))
 
   pub send-short : (S w : ℕ) → w ≡ length (startBytes b) + length (endBytes b)
-      → spent (spent (whole S) w) (length (allSent p rows t e g cs)) .short ≡ ltb S (length (sendBytes p rows t e g b cs))
+      → spent (spent (whole S) w) (length (allSent p rows t e (ask g t) (g .mode) cs)) .short ≡ ltb S (length (sendBytes p rows t e g b cs))
   unfolding sendBytes
   send-short S w q =
-      let l = length-append (startBytes b) (allSent p rows t e g cs ++ endBytes b) in
-      let k = length-append (allSent p rows t e g cs) (endBytes b) in
-      ap (λ (r : Rest). r .short) (spent-more (whole S) w (length (allSent p rows t e g cs)))
-      ∙ whole-short S (w + length (allSent p rows t e g cs))
+      let l = length-append (startBytes b) (allSent p rows t e (ask g t) (g .mode) cs ++ endBytes b) in
+      let k = length-append (allSent p rows t e (ask g t) (g .mode) cs) (endBytes b) in
+      ap (λ (r : Rest). r .short) (spent-more (whole S) w (length (allSent p rows t e (ask g t) (g .mode) cs)))
+      ∙ whole-short S (w + length (allSent p rows t e (ask g t) (g .mode) cs))
       ∙ ap (ltb S) (omega arith)
 
 -- ---- the second pass
@@ -67,8 +68,8 @@ pub record Passed (g : Settings) (t e : ℕ) (b : Bool) (cs : List Command) (bk 
   pub send : f′ ≡ put f 0 (sendBytes (setupNow g) (bk .rows) t e g b cs)
   pub returned : returnedOf (r .answer)
       ≡ wrote (length (planBytes (setupNow g) (bk .rows) t e g b cs)) (length (sendBytes (setupNow g) (bk .rows) t e g b cs))
-      (responses b (sentCount (setupNow g) (bk .rows) t e g cs))
-  pub keeps : Keeps g a′ (r .counts) (afterAll (setupNow g) (ons (lookups t e (wanted g t cs))) bk)
+      (responses b (sentCount (setupNow g) (bk .rows) t e (ask g t) (g .mode) cs))
+  pub keeps : Keeps g a′ (r .counts) (afterAll (setupNow g) (ons (lookups t e (wanted (ask g t) cs))) bk)
 
 -- there is room for the heads
 module _ (g : Settings) (t e : ℕ) (b : Bool) (cs : List Command) (a d f : Bytes)
@@ -79,7 +80,7 @@ module _ (g : Settings) (t e : ℕ) (b : Bool) (cs : List Command) (a d f : Byte
   unfolding planBytes
   head-fits =
       let h = room (v .rows) (v .lent) .0 in
-      let l = length-append (planHead b (length cs)) (allNodes (setupNow g) (v .rows) t e g cs) in
+      let l = length-append (planHead b (length cs)) (allNodes (setupNow g) (v .rows) t e (ask g t) cs) in
       let k = length-plan-head b (length cs) in
       omega arith
 
@@ -87,7 +88,7 @@ module _ (g : Settings) (t e : ℕ) (b : Bool) (cs : List Command) (a d f : Byte
   unfolding sendBytes
   start-fits =
       let h = room (v .rows) (v .lent) .1 in
-      let l = length-append (startBytes b) (allSent (setupNow g) (v .rows) t e g cs ++ endBytes b) in
+      let l = length-append (startBytes b) (allSent (setupNow g) (v .rows) t e (ask g t) (g .mode) cs ++ endBytes b) in
       omega arith
 
 -- the numbers
@@ -110,17 +111,17 @@ module _ (g : Settings) (t e : ℕ) (b : Bool) (cs : List Command) (a d f d₁ f
   send-room : (rows : ℕ → Row) → Lent g a rows → 0 + length (sendBytes (setupNow g) rows t e g b cs) ≤ length f
   send-room rows o = let h = room rows o .1 in omega arith
 
-  sent-room : (rows : ℕ → Row) → Lent g a rows → from + length (allSent (setupNow g) rows t e g cs ++ endBytes b) ≤ length f₁
+  sent-room : (rows : ℕ → Row) → Lent g a rows → from + length (allSent (setupNow g) rows t e (ask g t) (g .mode) cs ++ endBytes b) ≤ length f₁
   unfolding sendBytes
-  sent-room rows o = room-second f f₁ _ (startBytes b) (allSent (setupNow g) rows t e g cs ++ endBytes b) 0 from refl (send-room rows o) j
+  sent-room rows o = room-second f f₁ _ (startBytes b) (allSent (setupNow g) rows t e (ask g t) (g .mode) cs ++ endBytes b) 0 from refl (send-room rows o) j
 
   -- so there is room for the commands
   pub pass-room : Room g t e cs a d₁ f₁ (record { to = to; from = from; sent = 0; counts = counts })
   unfolding planBytes
   pass-room =
       record {
-        plan = λ rows o. room-second d d₁ _ (planHead b (length cs)) (allNodes (setupNow g) rows t e g cs) 0 to refl (plan-room rows o) head-wrote;
-        send = λ rows o. room-first _ (allSent (setupNow g) rows t e g cs) (endBytes b) from (length f₁) refl (sent-room rows o);
+        plan = λ rows o. room-second d d₁ _ (planHead b (length cs)) (allNodes (setupNow g) rows t e (ask g t) cs) 0 to refl (plan-room rows o) head-wrote;
+        send = λ rows o. room-first _ (allSent (setupNow g) rows t e (ask g t) (g .mode) cs) (endBytes b) from (length f₁) refl (sent-room rows o);
       }
 
   module _ (a′ d₂ f₂ : Bytes) (y : Progress) (w : Does g t e cs a d₁ f₁ (record { to = to; from = from; sent = 0; counts = counts }) a′ d₂ f₂ y) where
@@ -128,7 +129,7 @@ module _ (g : Settings) (t e : ℕ) (b : Bool) (cs : List Command) (a d f d₁ f
     pub end-room : Arena g a → y .from + length (endBytes b) ≤ length f₂
     end-room v =
         let R : ℕ → Row = v .rows in
-        room-second f₁ f₂ _ (allSent (setupNow g) R t e g cs) (endBytes b) from (y .from) refl (sent-room R (v .lent)) (w .send R (v .lent))
+        room-second f₁ f₂ _ (allSent (setupNow g) R t e (ask g t) (g .mode) cs) (endBytes b) from (y .from) refl (sent-room R (v .lent)) (w .send R (v .lent))
 
     -- all is written
     pub passed : (f₃ : Bytes) (end : ℕ) (r : CachedPipeline) → Wrote f₂ (y .from) (endBytes b) f₃ end
@@ -138,9 +139,9 @@ module _ (g : Settings) (t e : ℕ) (b : Bool) (cs : List Command) (a d f d₁ f
     passed f₃ end r z q c bk o =
         let R : ℕ → Row = bk .rows in
         let h = o .rows in
-        let P = wrote-both d d₁ d₂ _ (planHead b (length cs)) (allNodes (setupNow g) R t e g cs) 0 to (y .to) refl (plan-room R h) head-wrote (w .plan R h) in
-        let S = wrote-both f₁ f₂ f₃ _ (allSent (setupNow g) R t e g cs) (endBytes b) from (y .from) end refl (sent-room R h) (w .send R h) z in
-        let T = wrote-both f f₁ f₃ _ (startBytes b) (allSent (setupNow g) R t e g cs ++ endBytes b) 0 from end refl (send-room R h) j S in
+        let P = wrote-both d d₁ d₂ _ (planHead b (length cs)) (allNodes (setupNow g) R t e (ask g t) cs) 0 to (y .to) refl (plan-room R h) head-wrote (w .plan R h) in
+        let S = wrote-both f₁ f₂ f₃ _ (allSent (setupNow g) R t e (ask g t) (g .mode) cs) (endBytes b) from (y .from) end refl (sent-room R h) (w .send R h) z in
+        let T = wrote-both f f₁ f₃ _ (startBytes b) (allSent (setupNow g) R t e (ask g t) (g .mode) cs ++ endBytes b) 0 from end refl (send-room R h) j S in
         let n₁ = P .ends in
         let n₂ = T .ends in
         let n₃ = w .count R h in

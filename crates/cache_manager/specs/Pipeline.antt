@@ -24,7 +24,7 @@ use Rattle.planning.specs.Sent.{Responses}
 use Rattle.planning.specs.Planning.{PlanAnswer, because, done, planOn, callOf}
 use Rattle.sharded_lru.specs.Lent.{setupNow}
 use Rattle.call_entry.specs.Entered.{noCause, entered}
-use Rattle.look_up.specs.Looks.{countsOf}
+use Rattle.planning_look_up.specs.Looks.{countsOf}
 use Rattle.cache_manager.specs.declared.Pipelined.{Pipelined}
 use Rattle.cache_manager.specs.declared.Pipelined.the-variants.{Done, BadRecord, Refused}
 use Rattle.cache_manager.specs.declared.CachedPipeline.{CachedPipeline}

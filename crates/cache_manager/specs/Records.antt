@@ -25,14 +25,14 @@ use Rattle.book.specs.Calls.{lookups, ons}
 use Rattle.arena.specs.Layout.{encode}
 use Rattle.arena.specs.Decode.{decode}
 use Rattle.arena.specs.Sequence.{Held, lend, bookOf}
-use Rattle.planning.specs.Ask.{anyLate}
+use Rattle.planning.specs.Ask.{ask, anyLate}
 use Rattle.planning.specs.Outcome.{wanted}
 use Rattle.sharded_lru.specs.Lent.{setupNow}
 use Rattle.sharded_lru.specs.Admit.{admitted}
 use Rattle.sharded_lru.specs.declared.Admitted.the-variants.{Refused as NotAdmitted}
 use Rattle.call_entry.specs.Laws.{is-entered, not-entered}
-use Rattle.look_up.specs.Looks.{countsOf}
-use Rattle.dry_pass.specs.Dry.{Planable}
+use Rattle.planning_look_up.specs.Looks.{countsOf}
+use Rattle.planning_dry_pass.specs.Dry.{Planable}
 use Rattle.call_entry.specs.Entered.{holding}
 use Rattle.cache_manager.specs.Pipeline.{Returned, refusedAs, wrongAt, Left, refusal, recorded, judged, admittedTo, planCall, returnedOf, Leaves}
 use Rattle.cache_manager.specs.Planned.{planBytes, sendBytes, planNow, sendNow, late-refused, short-refused, all-written}
@@ -111,7 +111,7 @@ module _ (t e : ℕ) (s d f a : Bytes) (g : Settings) (k : Commands) (counts : S
             arena =
                 sym (y .keeps .rows .image .bytes) ∙ ap
                 (λ (m : ℕ). encode (setupNow g) m
-                (afterAll (setupNow g) (ons (lookups t e (wanted g t (recordAt s .commands)))) (bookOf rows (holding a (countsOf counts) next)) .rows)) n;
+                (afterAll (setupNow g) (ons (lookups t e (wanted (ask g t) (recordAt s .commands)))) (bookOf rows (holding a (countsOf counts) next)) .rows)) n;
             counts = y .keeps .counts;
             plan = y .plan;
             send = y .send;

@@ -1,10 +1,11 @@
 // Planning: `get_cached_pipeline` (cache_manager.rs), on a lent arena, a call record and two lent buffers. Nothing is asked of the caller: what is wrong is
 // refused by a cause's number. specs/Pipeline.antt says what is returned and left.
 use call_record::Checked;
+use config::Now;
 use config::Settings;
 use cursor::Commands;
-use dry_pass::Room;
-use plan_pass::Progress;
+use planning_dry_pass::Room;
+use planning_second_pass::Progress;
 use sharded_lru::Admitted;
 use statistics::Statistics;
 ghost use mathlib.Core.Path.{_≡_};
@@ -17,11 +18,11 @@ ghost use Rattle.call_record.specs.Check.{checkDef};
 ghost use Rattle.cursor.specs.At.{commandsOf, recordAt};
 ghost use Rattle.book.specs.Book.{Row, Book};
 ghost use Rattle.sharded_lru.specs.Lent.{setupNow, Lent, Arena};
-ghost use Rattle.look_up.specs.Looks.{Keeps};
-ghost use Rattle.dry_pass.specs.Dry.{Planable};
+ghost use Rattle.planning_look_up.specs.Looks.{Keeps};
+ghost use Rattle.planning_dry_pass.specs.Dry.{Planable};
 ghost use Rattle.call_record.specs.declared.Checked.the-variants.{Fine};
 ghost use Rattle.cache_manager.specs.declared.Pipelined.the-variants.{Refused};
-ghost use Rattle.look_up.specs.Looks.{countsOf};
+ghost use Rattle.planning_look_up.specs.Looks.{countsOf};
 ghost use Rattle.call_entry.specs.Entered.{holding};
 ghost use Rattle.cache_manager.specs.Pipeline.{planCall, recorded, admittedTo, Leaves};
 ghost use Rattle.cache_manager.specs.Planned.{planBytes, sendBytes};
@@ -79,25 +80,24 @@ fn is_short(
     transaction: bool,
     arena: &[u8],
     g: Settings,
-    clock: u64,
-    epoch: u64,
+    when: Now,
     plan: usize,
     send: usize,
 ) -> bool
-    requires { ⌜ Planable g clock (now bytes) (k .left) (k .at) × (length (now bytes) ≤ maxBytes) × Arena g (now arena) ⌝ }
-    ensures { λ r. ⌜ ((rows : ℕ → Row) → Lent g (now (arena .entry)) rows → r ≡ (ltb plan (length (planBytes (setupNow g) rows clock epoch g transaction (commandsOf (now (bytes .entry)) k))) || ltb send (length (sendBytes (setupNow g) rows clock epoch g transaction (commandsOf (now (bytes .entry)) k))))) ⌝ }
+    requires { ⌜ Planable g (when .clock) (now bytes) (k .left) (k .at) × (length (now bytes) ≤ maxBytes) × Arena g (now arena) ⌝ }
+    ensures { λ r. ⌜ ((rows : ℕ → Row) → Lent g (now (arena .entry)) rows → r ≡ (ltb plan (length (planBytes (setupNow g) rows (when .clock) (when .epoch) g transaction (commandsOf (now (bytes .entry)) k))) || ltb send (length (sendBytes (setupNow g) rows (when .clock) (when .epoch) g transaction (commandsOf (now (bytes .entry)) k))))) ⌝ }
 {
     let whole = Room {
         left: plan,
         short: false,
     };
-    let p = dry_pass::spend(whole, 8);
+    let p = planning_dry_pass::spend(whole, 8);
     let empty = Room {
         left: send,
         short: false,
     };
-    let q = dry_pass::spend(empty, pipeline::wrap_len(transaction));
-    dry_pass::dry_pass(bytes, k, arena, g, clock, epoch, p, q)
+    let q = planning_dry_pass::spend(empty, planning_send_len::wrap_len(transaction));
+    planning_dry_pass::dry_pass(bytes, k, arena, g, when, p, q)
 }
 
 // Both buffers written, where there is room, and the lookups done.
@@ -109,24 +109,23 @@ fn write_pipeline(
     k: Commands,
     transaction: bool,
     g: Settings,
-    clock: u64,
-    epoch: u64,
+    when: Now,
     counts: Statistics,
 ) -> CachedPipeline
-    requires { ⌜ Planable g clock (now bytes) (k .left) (k .at) × (length (now bytes) ≤ maxBytes) × Arena g (now arena) × (k .left ≤ maxCommands) × ((rows : ℕ → Row) → Lent g (now arena) rows → (length (planBytes (setupNow g) rows clock epoch g transaction (commandsOf (now bytes) k)) ≤ length (now plan)) × (length (sendBytes (setupNow g) rows clock epoch g transaction (commandsOf (now bytes) k)) ≤ length (now send))) ⌝ }
-    ensures { λ r. ⌜ ((bk : Book) → Keeps g (now (arena .entry)) counts bk → Passed g clock epoch transaction (commandsOf (now (bytes .entry)) k) bk (now (plan .entry)) (now (send .entry)) (now (arena .exit)) (now (plan .exit)) (now (send .exit)) r) ⌝ }
+    requires { ⌜ Planable g (when .clock) (now bytes) (k .left) (k .at) × (length (now bytes) ≤ maxBytes) × Arena g (now arena) × (k .left ≤ maxCommands) × ((rows : ℕ → Row) → Lent g (now arena) rows → (length (planBytes (setupNow g) rows (when .clock) (when .epoch) g transaction (commandsOf (now bytes) k)) ≤ length (now plan)) × (length (sendBytes (setupNow g) rows (when .clock) (when .epoch) g transaction (commandsOf (now bytes) k)) ≤ length (now send))) ⌝ }
+    ensures { λ r. ⌜ ((bk : Book) → Keeps g (now (arena .entry)) counts bk → Passed g (when .clock) (when .epoch) transaction (commandsOf (now (bytes .entry)) k) bk (now (plan .entry)) (now (send .entry)) (now (arena .exit)) (now (plan .exit)) (now (send .exit)) r) ⌝ }
 {
     let n = k.left;
     let to = plan_write::write_plan_head(plan, transaction, n as u32);
-    let from = pipeline::write_start(send, 0, transaction);
+    let from = planning_send_len::write_start(send, 0, transaction);
     let x = Progress {
         to,
         from,
         sent: 0,
         counts,
     };
-    let y = plan_pass::plan_commands(arena, plan, send, bytes, k, g, clock, epoch, x);
-    let end = pipeline::write_end(send, y.from, transaction);
+    let y = planning_second_pass::plan_commands(arena, plan, send, bytes, k, g, when, x);
+    let end = planning_send_len::write_end(send, y.from, transaction);
     let after = y.counts;
     let written = written_of(transaction, y.to, end, y.sent);
     CachedPipeline {
@@ -152,35 +151,23 @@ fn plan_record(
     send: &mut [u8],
     bytes: &[u8],
     g: Settings,
-    clock: u64,
-    epoch: u64,
+    when: Now,
     counts: Statistics,
 ) -> CachedPipeline
     requires { ⌜ Arena g (now arena) × (length (now bytes) ≤ maxBytes) × (checkDef (now bytes) ≡ Fine) ⌝ }
-    ensures { λ r. ⌜ ((rows : ℕ → Row) (next : ℕ) → Lent g (now (arena .entry)) rows → Leaves (recorded clock epoch (now (bytes .entry)) (now (plan .entry)) (now (send .entry)) (holding (now (arena .entry)) (countsOf counts) next) g rows (recordAt (now (bytes .entry)))) (now (arena .exit)) (now (plan .exit)) (now (send .exit)) r) ⌝ }
+    ensures { λ r. ⌜ ((rows : ℕ → Row) (next : ℕ) → Lent g (now (arena .entry)) rows → Leaves (recorded (when .clock) (when .epoch) (now (bytes .entry)) (now (plan .entry)) (now (send .entry)) (holding (now (arena .entry)) (countsOf counts) next) g rows (recordAt (now (bytes .entry)))) (now (arena .exit)) (now (plan .exit)) (now (send .exit)) r) ⌝ }
 {
     let k = cursor::commands_of(bytes);
-    if ask::any_late(bytes, k, g, clock) {
+    if planning_ask::any_late(bytes, k, g, when.clock) {
         return refused(config::LATE_EXPIRY, counts);
     }
     let transaction = cursor::is_transaction(bytes);
     let n = plan.len();
     let m = send.len();
-    if is_short(bytes, k, transaction, arena, g, clock, epoch, n, m) {
+    if is_short(bytes, k, transaction, arena, g, when, n, m) {
         return refused(config::SHORT_BUFFER, counts);
     }
-    write_pipeline(
-        arena,
-        plan,
-        send,
-        bytes,
-        k,
-        transaction,
-        g,
-        clock,
-        epoch,
-        counts,
-    )
+    write_pipeline(arena, plan, send, bytes, k, transaction, g, when, counts)
 }
 
 // Planning that causes 1 and 9 admitted.
@@ -190,12 +177,11 @@ fn plan_admitted(
     send: &mut [u8],
     bytes: &[u8],
     g: Settings,
-    clock: u64,
-    epoch: u64,
+    when: Now,
     counts: Statistics,
 ) -> CachedPipeline
     requires { ⌜ Arena g (now arena) ⌝ }
-    ensures { λ r. ⌜ ((rows : ℕ → Row) (next : ℕ) → Lent g (now (arena .entry)) rows → Leaves (admittedTo clock epoch (now (bytes .entry)) (now (plan .entry)) (now (send .entry)) (holding (now (arena .entry)) (countsOf counts) next) g rows) (now (arena .exit)) (now (plan .exit)) (now (send .exit)) r) ⌝ }
+    ensures { λ r. ⌜ ((rows : ℕ → Row) (next : ℕ) → Lent g (now (arena .entry)) rows → Leaves (admittedTo (when .clock) (when .epoch) (now (bytes .entry)) (now (plan .entry)) (now (send .entry)) (holding (now (arena .entry)) (countsOf counts) next) g rows) (now (arena .exit)) (now (plan .exit)) (now (send .exit)) r) ⌝ }
 {
     if config::MAX_BYTES < bytes.len() {
         return refused(config::TOO_LONG, counts);
@@ -205,7 +191,7 @@ fn plan_admitted(
             answer: Pipelined::BadRecord(o),
             counts,
         },
-        Checked::Fine => plan_record(arena, plan, send, bytes, g, clock, epoch, counts),
+        Checked::Fine => plan_record(arena, plan, send, bytes, g, when, counts),
     }
 }
 
@@ -215,17 +201,16 @@ pub fn get_cached_pipeline(
     size: u64,
     mode: u64,
     ttl: u64,
-    clock: u64,
-    epoch: u64,
+    when: Now,
     bytes: &[u8],
     plan: &mut [u8],
     send: &mut [u8],
     counts: Statistics,
 ) -> CachedPipeline
-    ensures { λ r. ⌜ ((next : ℕ) → Leaves (planCall size mode ttl clock epoch (now (bytes .entry)) (now (plan .entry)) (now (send .entry)) (holding (now (arena .entry)) (countsOf counts) next)) (now (arena .exit)) (now (plan .exit)) (now (send .exit)) r) ⌝ }
+    ensures { λ r. ⌜ ((next : ℕ) → Leaves (planCall size mode ttl (when .clock) (when .epoch) (now (bytes .entry)) (now (plan .entry)) (now (send .entry)) (holding (now (arena .entry)) (countsOf counts) next)) (now (arena .exit)) (now (plan .exit)) (now (send .exit)) r) ⌝ }
 {
     match sharded_lru::admit(arena, size, mode, ttl) {
         Admitted::Refused(n) => refused(n, counts),
-        Admitted::Admits(g) => plan_admitted(arena, plan, send, bytes, g, clock, epoch, counts),
+        Admitted::Admits(g) => plan_admitted(arena, plan, send, bytes, g, when, counts),
     }
 }

@@ -8,6 +8,7 @@ pub mod resolve_call;
 pub mod served_call;
 pub mod value_end_call;
 
+use config::Now;
 use single_calls::Answered;
 use single_calls::Found;
 use single_calls::Invalidated;
@@ -211,7 +212,8 @@ fn lookup_counting<'a>(
     ensures is_arena { λ _. ⌜ now (whole .exit) .ptr ≡ arena .entry .ptr ⌝ }
 {
     let none = none_yet();
-    let r = single_calls::lookup(arena, size, mode, ttl, clock, epoch, key, command, none);
+    let when = Now { clock, epoch };
+    let r = single_calls::lookup(arena, size, mode, ttl, when, key, command, none);
     let found = r.found;
     let adds = r.counts;
     let t = &arena[..];

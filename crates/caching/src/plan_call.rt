@@ -2,6 +2,7 @@
 // caller.
 use crate::none_yet;
 use cache_manager::Pipelined;
+use config::Now;
 use statistics::Statistics;
 ghost use mathlib.Core.Path.{_≡_};
 ghost use Prim.Native.Nat.{ℕ};
@@ -74,13 +75,13 @@ fn plan_counting(
     ensures { λ r. ⌜ ((was : Statistics) (next : ℕ) → Counted (countsOf was) → PlanLeft (planBy size mode ttl clock epoch (now (bytes .entry)) (now (plan .entry)) (now (send .entry)) (now (arena .entry)) (countsOf was) next) (now (arena .exit)) (now (plan .exit)) (now (send .exit)) was r) ⌝ }
 {
     let none = none_yet();
+    let when = Now { clock, epoch };
     let r = cache_manager::get_cached_pipeline(
         arena,
         size,
         mode,
         ttl,
-        clock,
-        epoch,
+        when,
         bytes,
         plan,
         send,

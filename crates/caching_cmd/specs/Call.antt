@@ -21,7 +21,7 @@ use Rattle.sharded_lru.specs.Lent.{setupNow}
 use Rattle.call_entry.specs.Entered.{noCause, entered}
 use Rattle.planning.specs.Plan as nodes
 use Rattle.plan.specs.Decode.{decodePlan}
-use Rattle.plan_commands.specs.Commands.{planRead}
+use Rattle.resolving_walk.specs.Commands.{planRead}
 use Rattle.resolving.specs.Resolve.{Resolved, cause7, answered, resolve}
 use Rattle.resolving.specs.Result.{resultBytes, callOf}
 use Rattle.caching_cmd.specs.declared.ResolveAnswer.{ResolveAnswer}

@@ -28,7 +28,7 @@ use Rattle.arena.specs.Sizes.{setupOf}
 use Rattle.planning.specs.Plan.{plan-defs}
 use Rattle.planning.specs.Rules.{order-defs}
 use Rattle.plan.specs.Decode.{decode-defs}
-use Rattle.plan_commands.specs.Commands.{valueAt, placeAt, valuesAt, placesAt, commandsOf, planRead}
+use Rattle.resolving_walk.specs.Commands.{valueAt, placeAt, valuesAt, placesAt, commandsOf, planRead}
 use Rattle.resolving.specs.Resolve.{resolve}
 use Rattle.resolving.specs.Result.{resultBytes}
 use Rattle.caching_cmd.specs.declared.ResolveAnswer.the-variants.{Answered, Refused}

@@ -10,7 +10,7 @@ use Rattle.buffer.specs.Part.{put, put-put, put-at}
 use Rattle.buffer.specs.Zero.{zeroed}
 use Rattle.decimal.specs.Digits.{digits}
 use Rattle.cmd.specs.Pack.{head}
-use Rattle.resolve_walk.specs.Same.{resultHead}
+use Rattle.resolving_walk.specs.Same.{resultHead}
 
 head-length : (n : ℕ) → length (head 42 n) ≡ length (digits n) + 3
 head-length n = simp length-append (omega arith)

@@ -36,12 +36,12 @@ use Rattle.planning.specs.Plan.{encNode, encPlan}
 use Rattle.planning.specs.Rules.{GoodPlan}
 use Rattle.plan.specs.Decode.{readPlan, isPlan, decodePlan}
 use Rattle.plan.specs.Law.{read-start, read-back, plan-law}
-use Rattle.plan_commands.specs.Commands.{planRead}
+use Rattle.resolving_walk.specs.Commands.{planRead}
 use Rattle.resolving.specs.Convert.{thenOnlyList, repliesOf}
 use Rattle.resolving.specs.Resolve.{Resolved, cause7, answered, resolve}
-use Rattle.resolve_walk.specs.Same.{answers-many}
-use Rattle.resolve_pass.specs.Passes.{Starts}
-use Rattle.resolve_step.specs.Arms.{element-means, empty-stands}
+use Rattle.resolving_walk.specs.Same.{answers-many}
+use Rattle.resolving_passes.specs.Passes.{Starts}
+use Rattle.resolving_step.specs.Arms.{element-means, empty-stands}
 use Rattle.caching_cmd.specs.declared.ResolveAnswer.{ResolveAnswer}
 use Rattle.caching_cmd.specs.declared.ResolveAnswer.the-variants.{Refused}
 use Rattle.caching_cmd.specs.declared.Found.{Found}

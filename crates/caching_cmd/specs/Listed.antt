@@ -15,17 +15,17 @@ use Rattle.resp3.specs.Value.{Value, Values, none}
 use Rattle.resp3_element.specs.declared.Cursor.{Cursor}
 use Rattle.resp3_element.specs.Meaning.{Stands}
 use Rattle.plan.specs.Decode.{readPlan, isPlan}
-use Rattle.plan_commands.specs.Commands.{planRead}
+use Rattle.resolving_walk.specs.Commands.{planRead}
 use Rattle.resolving.specs.Convert.{repliesOf}
 use Rattle.resolving.specs.Resolve.{Resolved, cause7, resolve}
-use Rattle.resolve_walk.specs.Walk.{walk}
-use Rattle.resolve_walk.specs.Same.{walkedOf, plan-walk, no-list, resultHead}
-use Rattle.resolve_step.specs.declared.Walk.{Walk}
-use Rattle.resolve_pass.specs.declared.Room.{Room}
-use Rattle.resolve_pass.specs.declared.Dry.{Dry}
-use Rattle.resolve_pass.specs.declared.Dry.the-variants.{Fits, Short, Wrong}
-use Rattle.resolve_pass.specs.Passes.{spent, dryOf, Starts, Begins, DryIs, Fine}
-use Rattle.resolve_store.specs.Stores.{StorePass}
+use Rattle.resolving_walk.specs.Walk.{walk}
+use Rattle.resolving_walk.specs.Same.{walkedOf, plan-walk, no-list, resultHead}
+use Rattle.resolving_step.specs.declared.Walk.{Walk}
+use Rattle.resolving_passes.specs.declared.Room.{Room}
+use Rattle.resolving_passes.specs.declared.Dry.{Dry}
+use Rattle.resolving_passes.specs.declared.Dry.the-variants.{Fits, Short, Wrong}
+use Rattle.resolving_passes.specs.Passes.{spent, dryOf, Starts, Begins, DryIs, Fine}
+use Rattle.resolving_store.specs.Stores.{StorePass}
 use Rattle.caching_cmd.specs.declared.ResolveAnswer.{ResolveAnswer}
 use Rattle.caching_cmd.specs.declared.ResolveAnswer.the-variants.{Refused}
 use Rattle.caching_cmd.specs.declared.Found.the-variants.{No}

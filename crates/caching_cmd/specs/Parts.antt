@@ -21,16 +21,16 @@ use Rattle.arena.specs.Sequence.{Held}
 use Rattle.sharded_lru.specs.Lent.{setupNow, Lent}
 use Rattle.planning.specs.Plan.{Node}
 use Rattle.plan.specs.Decode.{readPlan, decodePlan}
-use Rattle.plan_commands.specs.Commands.{planRead}
+use Rattle.resolving_walk.specs.Commands.{planRead}
 use Rattle.resolving.specs.Convert.{repliesOf}
 use Rattle.resolving.specs.Resolve.{Resolved, resolve}
-use Rattle.resolve_walk.specs.Walk.{walk}
-use Rattle.resolve_walk.specs.Same.{resultHead}
-use Rattle.resolve_step.specs.declared.Walk.{Walk}
-use Rattle.resolve_pass.specs.Passes.{Starts, answerBytes}
-use Rattle.resolve_pass.specs.declared.Dry.{Dry}
-use Rattle.resolve_pass.specs.declared.Dry.the-variants.{Fits, Short, Wrong}
-use Rattle.resolve_store.specs.Stores.{StorePass}
+use Rattle.resolving_walk.specs.Walk.{walk}
+use Rattle.resolving_walk.specs.Same.{resultHead}
+use Rattle.resolving_step.specs.declared.Walk.{Walk}
+use Rattle.resolving_passes.specs.Passes.{Starts, answerBytes}
+use Rattle.resolving_passes.specs.declared.Dry.{Dry}
+use Rattle.resolving_passes.specs.declared.Dry.the-variants.{Fits, Short, Wrong}
+use Rattle.resolving_store.specs.Stores.{StorePass}
 use Rattle.caching_cmd.specs.declared.ResolveAnswer.{ResolveAnswer}
 use Rattle.caching_cmd.specs.declared.ResolveAnswer.the-variants.{Answered, Refused}
 use Rattle.caching_cmd.specs.declared.Found.{Found}

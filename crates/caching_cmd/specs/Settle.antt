@@ -17,15 +17,15 @@ use Rattle.book.specs.Book.{afterAll}
 use Rattle.book.specs.Calls.{Storing, call-defs}
 use Rattle.resolving.specs.Resolve.{Resolved, cause7, answered}
 use Rattle.resolving.specs.Result.{resultBytes}
-use Rattle.resolve_walk.specs.Walk.{Walked, stopped, through}
-use Rattle.resolve_walk.specs.Same.{walkedOf, resultHead, result-pieces}
-use Rattle.resolve_pass.specs.declared.Room.{Room}
-use Rattle.resolve_pass.specs.declared.Dry.{Dry}
-use Rattle.resolve_pass.specs.declared.Dry.the-variants.{Fits, Short, Wrong}
-use Rattle.resolve_pass.specs.Passes.{spent, dryIf, dryOf, FineWalk, answerBytes}
-use Rattle.resolve_pass.specs.Laws.{room-same, tally-spent}
-use Rattle.resolve_store.specs.Stores.{Stores, walkedStores}
-use Rattle.resolve_store.specs.Laws.{stores-none}
+use Rattle.resolving_walk.specs.Walk.{Walked, stopped, through}
+use Rattle.resolving_walk.specs.Same.{walkedOf, resultHead, result-pieces}
+use Rattle.resolving_passes.specs.declared.Room.{Room}
+use Rattle.resolving_passes.specs.declared.Dry.{Dry}
+use Rattle.resolving_passes.specs.declared.Dry.the-variants.{Fits, Short, Wrong}
+use Rattle.resolving_passes.specs.Passes.{spent, dryIf, dryOf, FineWalk, answerBytes}
+use Rattle.resolving_passes.specs.Laws.{room-same, tally-spent}
+use Rattle.resolving_store.specs.Stores.{Stores, walkedStores}
+use Rattle.resolving_store.specs.Laws.{stores-none}
 use Rattle.caching_cmd.specs.declared.ResolveAnswer.the-variants.{Answered, Refused}
 use Rattle.caching_cmd.specs.Call.{fits, toldTo, refusedOf, answerOf, bufferAfter}
 use Rattle.caching_cmd.specs.Cases.{refused-in-75}

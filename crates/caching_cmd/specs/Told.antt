@@ -30,8 +30,8 @@ use Rattle.call_entry.specs.Laws.{refused-held}
 use Rattle.planning.specs.Plan as nodes
 use Rattle.plan.specs.Decode.{decodePlan}
 use Rattle.plan.specs.Law as planLaws
-use Rattle.plan_commands.specs.Commands.{planRead}
-use Rattle.plan_commands.specs.Laws.{plan-within}
+use Rattle.resolving_walk.specs.Commands.{planRead}
+use Rattle.resolving_walk.specs.Laws.{plan-within}
 use Rattle.resolving.specs.Resolve.{Resolved, cause7, answered, resolve}
 use Rattle.resolving.specs.Result.{resultBytes}
 use Rattle.resolving.specs.Kept.{Sent, AllStorable, Kept, resolved-kept}

@@ -1,9 +1,9 @@
 // Resolving, after `CacheablePipeline::resolve` of caching/cmd.rs: a plan and the replies to what was sent become the result, and what was fetched is
 // stored. Nothing is asked of the caller: what is wrong is refused by a cause's number. specs/Call.antt says what comes out, for all input.
 use config::Settings;
-use resolve_pass::Dry;
-use resolve_pass::Room;
-use resolve_step::Walk;
+use resolving_passes::Dry;
+use resolving_passes::Room;
+use resolving_step::Walk;
 use resp3_element::Cursor;
 use resp3_element::Elements;
 use sharded_lru::Admitted;
@@ -16,8 +16,8 @@ ghost use Rattle.resp3.specs.Ends.{isValue};
 ghost use Rattle.book.specs.Book.{Counts};
 ghost use Rattle.sharded_lru.specs.Lent.{Arena};
 ghost use Rattle.plan.specs.Decode.{readPlan, isPlan};
-ghost use Rattle.resolve_walk.specs.Same.{resultHead};
-ghost use Rattle.resolve_pass.specs.Passes.{Begins, Fine};
+ghost use Rattle.resolving_walk.specs.Same.{resultHead};
+ghost use Rattle.resolving_passes.specs.Passes.{Begins, Fine};
 ghost use Rattle.caching_cmd.specs.Call.{resolveCall, Comes};
 ghost use Rattle.caching_cmd.specs.Parts.{startAt, Finds, Listed, StoredIf, StoredFor, ShapeRefused, AllWritten, ListResolved, CheckedResolved, AdmittedResolved};
 
@@ -129,7 +129,7 @@ fn store_if(
     if !kept {
         return 0;
     }
-    resolve_store::store_pass(arena, g, plan, list, start, mode, clock, epoch)
+    resolving_store::store_pass(arena, g, plan, list, start, mode, clock, epoch)
 }
 
 // What a resolving stores, by what the dry pass found: where 7 refuses it, what was fetched before the reply that does not fit; where 8 does, nothing.
@@ -179,7 +179,7 @@ fn write_result<'a>(
 {
     let mode = g.mode;
     let at = write_result_head(answer, transaction, n);
-    let end = resolve_pass::answer_pass(plan, list, start, mode, clock, answer, at);
+    let end = resolving_passes::answer_pass(plan, list, start, mode, clock, answer, at);
     ResolveAnswer::Answered(end, refused)
 }
 
@@ -205,8 +205,8 @@ fn resolve_list<'a>(
         left: answer.len(),
         short: false,
     };
-    let room = resolve_pass::spend(whole, head_len(transaction, n));
-    let found = resolve_pass::dry_pass(plan, list, start, mode, clock, room);
+    let room = resolving_passes::spend(whole, head_len(transaction, n));
+    let found = resolving_passes::dry_pass(plan, list, start, mode, clock, room);
     let refused = store_found(arena, g, plan, list, start, clock, epoch, found);
     match found {
         Dry::Wrong => refuse_shape(answer),

@@ -55,6 +55,12 @@ pub enum CacheMode {
     OptIn,
 }
 
+// When a call is made: its clock (ms) and its epoch, as it was given them.
+pub struct Now {
+    pub clock: u64,
+    pub epoch: u64,
+}
+
 // What a call works with, once cause 1 is ruled out.
 pub struct Settings {
     pub mode: CacheMode,

@@ -25,11 +25,11 @@ use Rattle.cursor.specs.At.{recordAt}
 use Rattle.book.specs.Book.{Answer, Keyed}
 use Rattle.book.specs.Calls as calls
 use Rattle.book.specs.Calls.{Call, Wanted, Storing}
-use Rattle.planning.specs.Ask.{anyLate}
+use Rattle.planning.specs.Ask.{ask, anyLate}
 use Rattle.planning.specs.Outcome.{wanted}
 use Rattle.planning.specs.Plan as nodes
 use Rattle.planning.specs.Planning as planned
-use Rattle.plan_commands.specs.Commands.{planRead}
+use Rattle.resolving_walk.specs.Commands.{planRead}
 use Rattle.resolving.specs.Pushes.{isInvalidate, invalidating, fromElements, fromPush, pushed}
 use Rattle.resolving.specs.Resolve as resolvings
 use Rattle.resolving.specs.Resolve.{Resolved, cause7, answered}
@@ -81,7 +81,7 @@ module _ (P : Call → Type 0) where
     unfolding judgedCall planned.callOf
     by-record Valid =
         byTest (anyLate g t (recordAt bytes .commands)) (λ l. rw l denied)
-        (λ l. rw l (done (wanted g t (recordAt bytes .commands)) (planned.short g t (recordAt bytes) a b)))
+        (λ l. rw l (done (wanted (ask g t) (recordAt bytes .commands)) (planned.short (ask g t) g (recordAt bytes) a b)))
     by-record (Wrong o) = denied
 
     pub of-planning : P (plannings.bookCall g t e bytes a b)

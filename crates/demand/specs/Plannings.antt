@@ -29,7 +29,7 @@ use Rattle.book.specs.Calls as calls
 use Rattle.book.specs.Calls.{Call, Wanted, replyTo}
 use Rattle.book.specs.Lookups.{dry, planning-reply}
 use Rattle.arena.specs.Tests.{WellFormed}
-use Rattle.planning.specs.Ask.{anyLate}
+use Rattle.planning.specs.Ask.{ask, anyLate}
 use Rattle.planning.specs.Outcome.{CachingResult, wanted, outcomes}
 use Rattle.planning.specs.Plan.{nodes, planOf}
 use Rattle.planning.specs.Planning.{Planned, plannedFrom, short, callOf}
@@ -48,7 +48,7 @@ use Rattle.demand.specs.Words.{placesIn, placesOf, planBytes, gotsOf}
 module _ (g : Settings) (t e : ℕ) (bytes d f : Bytes) (p : Setup) (bk : Book) where
   -- what is written for these answers, and what is returned then
   abbrev out : List Answer → Planned
-  out said = plannedFrom g t (recordAt bytes) said
+  out said = plannedFrom (ask g t) g (recordAt bytes) said
 
   abbrev pub written : List Answer → Return
   written said =
@@ -56,7 +56,7 @@ module _ (g : Settings) (t e : ℕ) (bytes d f : Bytes) (p : Setup) (bk : Book) 
 
   -- what is looked up, and what the book answers
   abbrev pub ws : List Wanted
-  ws = wanted g t (recordAt bytes .commands)
+  ws = wanted (ask g t) (recordAt bytes .commands)
 
   abbrev pub said : List Answer
   said = dry p bk t e ws
@@ -70,23 +70,23 @@ module _ (g : Settings) (t e : ℕ) (bytes d f : Bytes) (p : Setup) (bk : Book) 
     pub few : ltb maxBytes (length bytes) ≡ false
     pub fine : checkDef bytes ≡ Valid
     pub intime : anyLate g t (recordAt bytes .commands) ≡ false
-    pub told : call ≡ calls.planning t e ws (short g t (recordAt bytes) (length d) (length f))
+    pub told : call ≡ calls.planning t e ws (short (ask g t) g (recordAt bytes) (length d) (length f))
     pub reply : replyTo p call bk ≡ some said
     pub return : r ≡ written said
 
   module _ (few : ltb maxBytes (length bytes) ≡ false) (fine : checkDef bytes ≡ Valid) (intime : anyLate g t (recordAt bytes .commands) ≡ false) where
     -- the book is told of its lookups, and replies with their answers unless a buffer is short
-    call-is : call ≡ calls.planning t e ws (short g t (recordAt bytes) (length d) (length f))
+    call-is : call ≡ calls.planning t e ws (short (ask g t) g (recordAt bytes) (length d) (length f))
     unfolding told.bookCall judgedCall callOf
     call-is = rw (few, fine, intime)
 
-    reply-is : replyTo p call bk ≡ cond (short g t (recordAt bytes) (length d) (length f) said) none (some said)
-    reply-is = ap (λ (c : Call). replyTo p c bk) call-is ∙ planning-reply p t e ws (short g t (recordAt bytes) (length d) (length f)) bk
+    reply-is : replyTo p call bk ≡ cond (short (ask g t) g (recordAt bytes) (length d) (length f) said) none (some said)
+    reply-is = ap (λ (c : Call). replyTo p c bk) call-is ∙ planning-reply p t e ws (short (ask g t) g (recordAt bytes) (length d) (length f)) bk
 
     said-is : (x : List Answer) → replyTo p call bk ≡ some x → said ≡ x
     said-is x q =
-        let z : cond (short g t (recordAt bytes) (length d) (length f) said) none (some said) ≡ some x = sym reply-is ∙ q in
-        byTest (short g t (recordAt bytes) (length d) (length f) said) (λ u. absurd (Option·none-ne-some x (rw u at z)))
+        let z : cond (short (ask g t) g (recordAt bytes) (length d) (length f) said) none (some said) ≡ some x = sym reply-is ∙ q in
+        byTest (short (ask g t) g (recordAt bytes) (length d) (length f) said) (λ u. absurd (Option·none-ne-some x (rw u at z)))
         (λ u. Option·some-injective said x (rw u at z))
 
     -- cause 5, then causes 4 and 2: where none of them refuses it, it passes
@@ -115,7 +115,7 @@ module _ (g : Settings) (t e : ℕ) (bytes d f : Bytes) (p : Setup) (bk : Book) 
   module _ (w : WellFormed isValue p (bk .rows)) {r : Return} (x : Passing r) where
     -- its outcomes
     abbrev pub results : List CachingResult
-    results = outcomes g t (recordAt bytes .commands) said
+    results = outcomes (ask g t) (recordAt bytes .commands) said
 
     -- its bytes are a record, so the plan reads back
     is-record : IsRecord bytes

@@ -29,7 +29,7 @@ use Rattle.book.specs.Demand3.{demand-three}
 use Rattle.planning.specs.Ask.{anyLate}
 use Rattle.planning.specs.Plan as nodes
 use Rattle.plan.specs.Decode.{decodePlan}
-use Rattle.plan_commands.specs.Commands.{planRead}
+use Rattle.resolving_walk.specs.Commands.{planRead}
 use Rattle.resolving.specs.Resolve.{Resolved, cause7, answered, resolve}
 use Rattle.resolving.specs.Result.{resultBytes}
 use Rattle.call_entry.specs.Entered.{noCause}

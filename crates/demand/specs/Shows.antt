@@ -26,7 +26,7 @@ use Rattle.arena.specs.Sequence.{outcomeOf}
 use Rattle.planning.specs.Plan as nodes
 use Rattle.planning.specs.Planning.{callOf}
 use Rattle.plan.specs.Decode.{decodePlan}
-use Rattle.plan_commands.specs.Commands.{planRead}
+use Rattle.resolving_walk.specs.Commands.{planRead}
 use Rattle.resolving.specs.Resolve.{Resolved, cause7, answered, resolve}
 use Rattle.resolving.specs.Result.{resultBytes}
 use Rattle.single_calls.specs.Single as one

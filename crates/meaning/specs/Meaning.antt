@@ -43,7 +43,7 @@ use Rattle.sharded_lru.specs.Lent.{setupNow}
 use Rattle.planning.specs.Plan.{Plan, encPlan}
 use Rattle.planning.specs.Rules.{GoodPlan, IsPlan}
 use Rattle.plan.specs.Decode.{decodePlan}
-use Rattle.plan_commands.specs.Commands.{planRead}
+use Rattle.resolving_walk.specs.Commands.{planRead}
 use Rattle.resolving.specs.Resolve.{resolve}
 use Rattle.single_calls.specs.Single.{Return, refusedAs, overlong, calledOn}
 use Rattle.single_calls.specs.Place.{servedAt}

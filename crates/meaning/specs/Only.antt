@@ -25,7 +25,7 @@ use Rattle.sharded_lru.specs.Lent.{setupNow}
 use Rattle.planning.specs.Plan.{Plan, encPlan}
 use Rattle.planning.specs.Rules.{GoodPlan}
 use Rattle.plan.specs.Law as plans
-use Rattle.plan_commands.specs.Commands.{planRead}
+use Rattle.resolving_walk.specs.Commands.{planRead}
 use Rattle.resolving.specs.Resolve.{resolve}
 use Rattle.single_calls.specs.Single.{Return, refusedAs, singleCall}
 use Rattle.call_entry.specs.Entered.{holding}

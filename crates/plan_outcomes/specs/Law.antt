@@ -11,7 +11,7 @@ use Rattle.config.specs.declared.Settings.{Settings}
 use Rattle.format.specs.Runs.{All}
 use Rattle.call_record.specs.Record.{Record, transaction, ValidRecord, encRecord}
 use Rattle.book.specs.Book.{Answer}
-use Rattle.planning.specs.Ask.{anyLate}
+use Rattle.planning.specs.Ask.{ask, anyLate}
 use Rattle.planning.specs.Outcome as outcome
 use Rattle.planning.specs.Outcome.{CachingResult, missing, outcomes}
 use Rattle.planning.specs.Plan.{Node, endOfSeveral, valueNodes, placeNodes, servedNodes, missingNodes, nodesOf, nodes, planOf, encPlan}
@@ -23,7 +23,7 @@ use Rattle.planning.specs.Rules.{GoodPlan}
 use Rattle.resolving.specs.Plan.{Missing, Plan}
 use Rattle.plan.specs.Decode.{decodePlan}
 use Rattle.plan.specs.Law.{decode-law}
-use Rattle.plan_commands.specs.Commands.{valueAt, placeAt, valuesAt, placesAt, commandsOf, planRead}
+use Rattle.resolving_walk.specs.Commands.{valueAt, placeAt, valuesAt, placesAt, commandsOf, planRead}
 use Rattle.plan_outcomes.specs.Outcomes.{missingUntil, valuesGiven, placeGiven, servedGiven, missingGiven, commandGiven, planGiven}
 use Rattle.plan_outcomes.specs.Outcomes.{placesMissing, commandMissing, commandsMissing, untilGiven}
 
@@ -106,6 +106,6 @@ written-read b rs g =
 -- what planning writes for a valid record of at most 16 MiB, of which no client expiry is past 64 bits, on a cache that holds values, is read as its outcomes
 pub planned-read : (s : Settings) (t : ℕ) (r : Record) (said : List Answer) → ValidRecord r → length (encRecord r) ≤ maxBytes
     → anyLate s t (r .commands) ≡ false
-    → All GoodAnswer said → Read (plannedFrom s t r said .plan) (transaction r) (outcomes s t (r .commands) said)
+    → All GoodAnswer said → Read (plannedFrom (ask s t) s r said .plan) (transaction r) (outcomes (ask s t) (r .commands) said)
 unfolding plannedFrom plannedBy
-planned-read s t r said v b e h = written-read (transaction r) (outcomes s t (r .commands) said) (good-plan s t r said v b e h)
+planned-read s t r said v b e h = written-read (transaction r) (outcomes (ask s t) (r .commands) said) (good-plan s t r said v b e h)

@@ -24,7 +24,7 @@ use Rattle.book.specs.Lookups.{dry, planned}
 use Rattle.book.specs.Storable.{StorableEntries, StorableItem}
 use Rattle.arena.specs.Decode.{mayStore}
 use Rattle.arena.specs.Tests.{every-yes, WellFormed}
-use Rattle.planning.specs.Ask.{anyLate}
+use Rattle.planning.specs.Ask.{ask, anyLate}
 use Rattle.planning.specs.Outcome.{wanted, outcomes}
 use Rattle.planning.specs.Planning.{Planned, PlanAnswer, because, done, plannedFrom, short, planAnswer, planOn}
 use Rattle.planning.specs.Kept.{GoodAnswer}
@@ -68,20 +68,20 @@ dry-good p bk t e (x ∷ ws) w =
 module _ (p : Setup) (bk : Book) (g : Settings) (t e : ℕ) (r : Record) (planRoom sendRoom : ℕ) where
   -- the answers to its lookups
   abbrev said : List Answer
-  said = dry p bk t e (wanted g t (r .commands))
+  said = dry p bk t e (wanted (ask g t) (r .commands))
 
   -- what planning writes, where no cause refuses it
   pub plan-read : (x : Planned) → WellFormed isValue p (bk .rows) → ValidRecord r → length (encRecord r) ≤ maxBytes
-      → planOn p bk g t e r planRoom sendRoom ≡ done x → Read (x .plan) (transaction r) (outcomes g t (r .commands) said)
+      → planOn p bk g t e r planRoom sendRoom ≡ done x → Read (x .plan) (transaction r) (outcomes (ask g t) (r .commands) said)
   unfolding planOn planAnswer
   plan-read x w v b q =
       byTest (anyLate g t (r .commands))
       (λ l. absurd (let z : because 4 ≡ done x = rw l at q in let y : _≡_ {A = ℕ} 0 1 = cc in omega arith))
       (λ l.
-      byTest (short g t r planRoom sendRoom said)
+      byTest (short (ask g t) g r planRoom sendRoom said)
       (λ s. absurd (let z : because 5 ≡ done x = rw (planned, l, s) at q in let y : _≡_ {A = ℕ} 0 1 = cc in omega arith))
       (λ s.
-      let z : done (plannedFrom g t r said) ≡ done x = rw (planned, l, s) at q in
-      let y : plannedFrom g t r said ≡ x = cc in
-      subst (λ (d : Planned). Read (d .plan) (transaction r) (outcomes g t (r .commands) said)) y
-      (planned-read g t r said v b l (dry-good p bk t e (wanted g t (r .commands)) w))))
+      let z : done (plannedFrom (ask g t) g r said) ≡ done x = rw (planned, l, s) at q in
+      let y : plannedFrom (ask g t) g r said ≡ x = cc in
+      subst (λ (d : Planned). Read (d .plan) (transaction r) (outcomes (ask g t) (r .commands) said)) y
+      (planned-read g t r said v b l (dry-good p bk t e (wanted (ask g t) (r .commands)) w))))

@@ -238,7 +238,7 @@ no-keys = refl
 -- ---- several commands: the lookups stand in the commands' order
 
 pub in-order :
-    wanted all 5 (plain get-a ∷ flagged 1 0 get-a ∷ plain (word "MGET" ∷ word "b" ∷ word "a" ∷ []) ∷ plain (word "TTL" ∷ word "a" ∷ []) ∷ [])
+    wanted (ask all 5) (plain get-a ∷ flagged 1 0 get-a ∷ plain (word "MGET" ∷ word "b" ∷ word "a" ∷ []) ∷ plain (word "TTL" ∷ word "a" ∷ []) ∷ [])
     ≡ under "a" "GETa" ∷ under "b" "GETb" ∷ under "a" "GETa" ∷ []
 unfolding case-defs
 in-order = refl

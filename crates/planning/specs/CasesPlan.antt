@@ -8,6 +8,7 @@ use Rattle.resp3.specs.Value.{encode}
 use Rattle.call_record.specs.Record.{Command, Record}
 use Rattle.book.specs.Book.{Setup, Book, Answer, hit, miss, on, store, afterAll, fresh, plus, book-defs}
 use Rattle.book.specs.Calls.{afterCall, lookups, ons, call-defs}
+use Rattle.planning.specs.Ask.{ask}
 use Rattle.planning.specs.Outcome.{outcomes}
 use Rattle.planning.specs.Plan.{Node, handOn, servedValue, allServed, missingKey, several, waitingPlace, endOfSeveral, nodes, planOf, encPlan, plan-defs}
 use Rattle.planning.specs.Planning.{callOf, because, done, plannedFrom, planOn, planning-defs}
@@ -16,7 +17,7 @@ use Rattle.planning.specs.CasesSent.{sent-case-defs}
 
 -- the nodes of some commands where their lookups answer so
 unfoldable pub rows : List Command → List Answer → List Node
-rows cs said = nodes (outcomes all 5 cs said)
+rows cs said = nodes (outcomes (ask all 5) cs said)
 
 unfoldable pub plan-case-defs : Unit {0}
 unfolding rows plan-defs planning-defs sent-case-defs encode le
@@ -53,7 +54,7 @@ no-places = refl
 
 -- a transaction of `GET a`, missing: flags, `_`, one command, then one node of kind 3 with parts of 1 and 4 bytes and 1,800,005
 pub get-a-plan :
-    encPlan (planOf true (outcomes all 5 (plain get-a ∷ []) (miss ∷ [])))
+    encPlan (planOf true (outcomes (ask all 5) (plain get-a ∷ []) (miss ∷ [])))
     ≡ 1 ∷ 95 ∷ 13 ∷ 10 ∷ 1 ∷ 0 ∷ 0 ∷ 0 ∷ 3 ∷ 0 ∷ 0 ∷ 0 ∷ 1 ∷ 0 ∷ 0 ∷ 0 ∷ 4 ∷ 0 ∷ 0 ∷ 0 ∷ 69 ∷ 119 ∷ 27 ∷ 0 ∷ 0 ∷ 0 ∷ 0 ∷ 0 ∷ ascii "aGETa"
 unfolding plan-case-defs
 get-a-plan = refl
@@ -84,7 +85,7 @@ unfolding plan-case-defs book-defs lookups ons call-defs
 book-case-defs = tt
 
 -- the plan takes 33 bytes and 41 are sent: both fit exactly
-pub just-fits : planOn setup no-items all 5 7 asks-a 33 41 ≡ done (plannedFrom all 5 asks-a (miss ∷ []))
+pub just-fits : planOn setup no-items all 5 7 asks-a 33 41 ≡ done (plannedFrom (ask all 5) all asks-a (miss ∷ []))
 unfolding book-case-defs
 just-fits = refl
 
@@ -103,7 +104,7 @@ unfolding book-case-defs
 short-changes-nothing = refl
 
 -- served under its epoch, at its expiry too; a hit is counted
-pub served-on : planOn setup with-a all 10 7 asks-a 100 0 ≡ done (plannedFrom all 10 asks-a (hit u ∷ []))
+pub served-on : planOn setup with-a all 10 7 asks-a 100 0 ≡ done (plannedFrom (ask all 10) all asks-a (hit u ∷ []))
 unfolding book-case-defs
 served-on = refl
 

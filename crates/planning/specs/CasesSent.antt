@@ -10,19 +10,20 @@ use Rattle.config.specs.declared.Settings.{Settings}
 use Rattle.buffer.specs.Ascii.{ascii}
 use Rattle.call_record.specs.Record.{cursor, Command}
 use Rattle.book.specs.Book.{Answer, hit, miss}
+use Rattle.planning.specs.Ask.{ask}
 use Rattle.planning.specs.Outcome.{outcomes}
 use Rattle.planning.specs.Sent.{Packed, sent, wrapped, Responses, responses, sentBytes, sent-defs}
 use Rattle.planning.specs.Cases.{all, optIn, word, plain, flagged, withCursor, get-a, u, case-defs}
 
 -- what is sent for some commands where their lookups answer so: as commands, as bytes, and the responses
 unfoldable pub commands : Settings → Bool → List Command → List Answer → List Packed
-commands s b cs said = wrapped b (sent (s .mode) cs (outcomes s 5 cs said))
+commands s b cs said = wrapped b (sent (s .mode) cs (outcomes (ask s 5) cs said))
 
 unfoldable pub bytes : Settings → Bool → List Command → List Answer → Bytes
 bytes s b cs said = sentBytes (commands s b cs said)
 
 unfoldable pub counts : Settings → Bool → List Command → List Answer → Responses
-counts s b cs said = responses b (length (sent (s .mode) cs (outcomes s 5 cs said)))
+counts s b cs said = responses b (length (sent (s .mode) cs (outcomes (ask s 5) cs said)))
 
 unfoldable pub sent-case-defs : Unit {0}
 unfolding commands bytes counts sent-defs case-defs

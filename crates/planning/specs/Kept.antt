@@ -202,19 +202,19 @@ asked-nodes s t c said e h v b = reached-nodes c said (clientExpiry s t c) (reac
 
 -- each command takes the answers of its own lookups
 all-nodes : (s : Settings) (t : ℕ) (cs : List Command) (said : List Answer) → All ValidCommand cs → length (encAll encCommand cs) ≤ maxBytes
-    → anyLate s t cs ≡ false → All GoodAnswer said → All GoodNode (nodes (outcomes s t cs said))
+    → anyLate s t cs ≡ false → All GoodAnswer said → All GoodNode (nodes (outcomes (ask s t) cs said))
 unfolding outcomes nodes anyLate
 all-nodes s t [] said v b e h = tt
 all-nodes s t (c ∷ cs) said v b e h =
     let own = length (wants c (ask s t c)) in
     let j = length-append (encCommand c) (encAll encCommand cs) in
     let o = neither (pastEnd (reach (s .mode) c) (clientExpiry s t c)) (anyLate s t cs) e in
-    append-all GoodNode (nodesOf (outcome c (ask s t c) (take own said))) (nodes (outcomes s t cs (drop own said)))
+    append-all GoodNode (nodesOf (outcome c (ask s t c) (take own said))) (nodes (outcomes (ask s t) cs (drop own said)))
     (asked-nodes s t c (take own said) (o .0) (take-all GoodAnswer own said h) (v .0) (omega arith))
     (all-nodes s t cs (drop own said) (v .1) (omega arith) (o .1) (drop-all GoodAnswer own said h))
 
 -- as many outcomes as commands
-outcomes-count : (s : Settings) (t : ℕ) (cs : List Command) (said : List Answer) → length (outcomes s t cs said) ≡ length cs
+outcomes-count : (s : Settings) (t : ℕ) (cs : List Command) (said : List Answer) → length (outcomes (ask s t) cs said) ≡ length cs
 unfolding outcomes
 outcomes-count s t [] said = refl
 outcomes-count s t (c ∷ cs) said =
@@ -222,7 +222,7 @@ outcomes-count s t (c ∷ cs) said =
 
 -- of a valid record of at most 16 MiB, of which no client expiry is past 64 bits, on a cache that holds values, planning's plan is a good one
 pub good-plan : (s : Settings) (t : ℕ) (r : Record) (said : List Answer) → ValidRecord r → length (encRecord r) ≤ maxBytes → anyLate s t (r .commands) ≡ false
-    → All GoodAnswer said → GoodPlan (planOf (transaction r) (outcomes s t (r .commands) said))
+    → All GoodAnswer said → GoodPlan (planOf (transaction r) (outcomes (ask s t) (r .commands) said))
 unfolding planOf encRecord
 good-plan s t r said v b e h =
     let n = outcomes-count s t (r .commands) said in
@@ -232,11 +232,11 @@ good-plan s t r said v b e h =
     record {
       count = omega arith;
       each = all-nodes s t (r .commands) said (v .commands) (omega arith) e h;
-      order = in-order (outcomes s t (r .commands) said);
+      order = in-order (outcomes (ask s t) (r .commands) said);
     }
 
 -- so what it writes is a plan
 pub keeps-rules : (s : Settings) (t : ℕ) (r : Record) (said : List Answer) → ValidRecord r → length (encRecord r) ≤ maxBytes → anyLate s t (r .commands) ≡ false
-    → All GoodAnswer said → IsPlan (plannedFrom s t r said .plan)
+    → All GoodAnswer said → IsPlan (plannedFrom (ask s t) s r said .plan)
 unfolding plannedFrom plannedBy
-keeps-rules s t r said v b e h = record { plan = planOf (transaction r) (outcomes s t (r .commands) said); good = good-plan s t r said v b e h; is = refl }
+keeps-rules s t r said v b e h = record { plan = planOf (transaction r) (outcomes (ask s t) (r .commands) said); good = good-plan s t r said v b e h; is = refl }

@@ -71,10 +71,10 @@ wants c uncacheable = []
 wants c (oneKey k x) = wholeKey c k ∷ []
 wants c (severalKeys n ks path x) = partKeys n path ks
 
--- of all commands
-unfoldable pub wanted : Settings → ℕ → List Command → List Wanted
-wanted s t [] = []
-wanted s t (c ∷ cs) = wants c (ask s t c) ++ wanted s t cs
+-- of all commands, by what each asks for (`ask` of Ask.antt, for the settings and the clock of the call)
+unfoldable pub wanted : (Command → Ask) → List Command → List Wanted
+wanted asks [] = []
+wanted asks (c ∷ cs) = wants c (asks c) ++ wanted asks cs
 
 -- ---- The outcome, from the answers to the lookups (a lookup answers a hit or a miss)
 
@@ -133,10 +133,10 @@ outcome c (severalKeys n ks path x) said =
     let ps = places said (partKeys n path ks) in item (multipleItem (missing ps) n ps path x)
 
 -- of all commands, each from the answers to its own lookups
-unfoldable pub outcomes : Settings → ℕ → List Command → List Answer → List CachingResult
-outcomes s t [] said = []
-outcomes s t (c ∷ cs) said =
-    let own = length (wants c (ask s t c)) in outcome c (ask s t c) (take own said) ∷ outcomes s t cs (drop own said)
+unfoldable pub outcomes : (Command → Ask) → List Command → List Answer → List CachingResult
+outcomes asks [] said = []
+outcomes asks (c ∷ cs) said =
+    let own = length (wants c (asks c)) in outcome c (asks c) (take own said) ∷ outcomes asks cs (drop own said)
 
 -- one name that opens every definition of this page, for cases that compute
 unfoldable pub outcome-defs : Unit {0}

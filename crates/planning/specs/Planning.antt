@@ -9,10 +9,10 @@ use lib.ListN.{length}
 use Rattle.buffer.specs.Same.{Bytes}
 use Rattle.config.specs.Causes.{lateExpiry, shortBuffer}
 use Rattle.config.specs.declared.Settings.{Settings}
-use Rattle.call_record.specs.Record.{Record, transaction}
+use Rattle.call_record.specs.Record.{Command, Record, transaction}
 use Rattle.book.specs.Book.{Setup, Book, Answer, answers}
 use Rattle.book.specs.Calls.{Call, planning, refused, lookups, ons}
-use Rattle.planning.specs.Ask.{anyLate}
+use Rattle.planning.specs.Ask.{Ask, ask, anyLate}
 use Rattle.planning.specs.Outcome.{CachingResult, wanted, outcomes}
 use Rattle.planning.specs.Sent.{sent, wrapped, sentBytes, Responses, responses}
 use Rattle.planning.specs.Plan.{planOf, encPlan}
@@ -33,18 +33,18 @@ plannedBy s r rs =
     }
 
 -- by the answers to its lookups
-unfoldable pub plannedFrom : Settings → ℕ → Record → List Answer → Planned
-plannedFrom s t r said = plannedBy s r (outcomes s t (r .commands) said)
+unfoldable pub plannedFrom : (Command → Ask) → Settings → Record → List Answer → Planned
+plannedFrom asks s r said = plannedBy s r (outcomes asks (r .commands) said)
 
 -- cause 5 (rules P20, C5): what is to be written into one of the two buffers is longer than the buffer
-unfoldable pub short : Settings → ℕ → Record → ℕ → ℕ → List Answer → Bool
-short s t r planRoom sendRoom said =
-    ltb planRoom (length (plannedFrom s t r said .plan)) || ltb sendRoom (length (plannedFrom s t r said .send))
+unfoldable pub short : (Command → Ask) → Settings → Record → ℕ → ℕ → List Answer → Bool
+short asks s r planRoom sendRoom said =
+    ltb planRoom (length (plannedFrom asks s r said .plan)) || ltb sendRoom (length (plannedFrom asks s r said .send))
 
 -- the call that the book is told of (rule B14): its lookups; cause 4 refuses it whatever they would answer
 unfoldable pub callOf : Settings → ℕ → ℕ → Record → ℕ → ℕ → Call
 callOf s t e r planRoom sendRoom =
-    cond (anyLate s t (r .commands)) refused (planning t e (wanted s t (r .commands)) (short s t r planRoom sendRoom))
+    cond (anyLate s t (r .commands)) refused (planning t e (wanted (ask s t) (r .commands)) (short (ask s t) s r planRoom sendRoom))
 
 -- a cause's number, or what is written
 pub data PlanAnswer : Type 0 where
@@ -55,12 +55,12 @@ pub data PlanAnswer : Type 0 where
 unfoldable pub planAnswer : Settings → ℕ → Record → ℕ → ℕ → List Answer → PlanAnswer
 planAnswer s t r planRoom sendRoom said =
     cond (anyLate s t (r .commands)) (because lateExpiry)
-    (cond (short s t r planRoom sendRoom said) (because shortBuffer) (done (plannedFrom s t r said)))
+    (cond (short (ask s t) s r planRoom sendRoom said) (because shortBuffer) (done (plannedFrom (ask s t) s r said)))
 
 -- on a book
 unfoldable pub planOn : Setup → Book → Settings → ℕ → ℕ → Record → ℕ → ℕ → PlanAnswer
 planOn p bk s t e r planRoom sendRoom =
-    planAnswer s t r planRoom sendRoom (answers p (ons (lookups t e (wanted s t (r .commands)))) bk)
+    planAnswer s t r planRoom sendRoom (answers p (ons (lookups t e (wanted (ask s t) (r .commands)))) bk)
 
 -- one name that opens every definition of this page, for cases that compute
 unfoldable pub planning-defs : Unit {0}

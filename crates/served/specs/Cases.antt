@@ -17,7 +17,7 @@ use Rattle.arena.specs.Decode.{every}
 use Rattle.planning.specs.Plan.{plan-defs}
 use Rattle.planning.specs.Rules.{order-defs}
 use Rattle.plan.specs.Decode.{decode-defs}
-use Rattle.plan_commands.specs.Commands.{valueAt, placeAt, valuesAt, placesAt, commandsOf, planRead}
+use Rattle.resolving_walk.specs.Commands.{valueAt, placeAt, valuesAt, placesAt, commandsOf, planRead}
 use Rattle.resolving.specs.Result.{resultBytes}
 use Rattle.served.specs.declared.ServedAnswer.the-variants.{Answered, NeedsReplies, Refused}
 use Rattle.served.specs.Served.{servedAnswers, servedFrom, bufferFrom, servedOf, bufferOf, servedCall, servedBuffer}

@@ -19,19 +19,19 @@ use Rattle.config.specs.declared.CacheMode.the-variants.{All, OptIn}
 use Rattle.resp3.specs.Value.{Value, Values, array, none, more, encs}
 use Rattle.planning.specs.Plan as nodes
 use Rattle.plan.specs.Decode.{readPlan, isPlan, decodePlan}
-use Rattle.plan_commands.specs.Commands.{planRead}
+use Rattle.resolving_walk.specs.Commands.{planRead}
 use Rattle.resolving.specs.Plan.{Command, handedOn, cached, cachedArray, single, multiple}
 use Rattle.resolving.specs.Convert.{repliesOf}
 use Rattle.resolving.specs.Resolve.{Resolved, cause7, answered, behind, takeCommands, resolve}
 use Rattle.resolving.specs.Result.{resultBytes}
-use Rattle.resolve_walk.specs.Walk.{Walked, walk}
-use Rattle.resolve_walk.specs.Same.{walkedOf, plan-walk, resultHead, result-pieces}
-use Rattle.resolve_step.specs.declared.Walk.{Walk}
-use Rattle.resolve_step.specs.Arms.{empty-stands}
-use Rattle.resolve_pass.specs.declared.Room.{Room}
-use Rattle.resolve_pass.specs.declared.Dry.{Dry}
-use Rattle.resolve_pass.specs.declared.Dry.the-variants.{Fits, Short, Wrong}
-use Rattle.resolve_pass.specs.Passes.{spent, dryOf, Starts, Begins, DryIs, answerBytes}
+use Rattle.resolving_walk.specs.Walk.{Walked, walk}
+use Rattle.resolving_walk.specs.Same.{walkedOf, plan-walk, resultHead, result-pieces}
+use Rattle.resolving_step.specs.declared.Walk.{Walk}
+use Rattle.resolving_step.specs.Arms.{empty-stands}
+use Rattle.resolving_passes.specs.declared.Room.{Room}
+use Rattle.resolving_passes.specs.declared.Dry.{Dry}
+use Rattle.resolving_passes.specs.declared.Dry.the-variants.{Fits, Short, Wrong}
+use Rattle.resolving_passes.specs.Passes.{spent, dryOf, Starts, Begins, DryIs, answerBytes}
 use Rattle.resp3_element.specs.declared.Cursor.{Cursor}
 use Rattle.caching_cmd.specs.Parts.{startAt}
 use Rattle.caching_cmd.specs.Settle.{wholeRoom, dryFor, dry-says, Many}

@@ -28,7 +28,7 @@ use Rattle.arena.specs.Sequence.{Held, lend, bookOf}
 use Rattle.sharded_lru.specs.Lent.{setupNow}
 use Rattle.planning.specs.Plan as nodes
 use Rattle.plan.specs.Decode.{decodePlan}
-use Rattle.plan_commands.specs.Commands.{planRead}
+use Rattle.resolving_walk.specs.Commands.{planRead}
 use Rattle.resolving.specs.Convert.{repliesOf}
 use Rattle.resolving.specs.Resolve.{Resolved, cause7, answered, resolve, takeCommands}
 use Rattle.resolving.specs.Result.{resultBytes}

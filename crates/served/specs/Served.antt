@@ -14,7 +14,7 @@ use Rattle.config.specs.Causes.{shortAnswer, badPlan}
 use Rattle.resp3.specs.Value.{Value, Values, array, none, more}
 use Rattle.planning.specs.Plan as nodes
 use Rattle.plan.specs.Decode.{decodePlan}
-use Rattle.plan_commands.specs.Commands.{planRead}
+use Rattle.resolving_walk.specs.Commands.{planRead}
 use Rattle.resolving.specs.Plan.{Command, handedOn, cached, cachedArray, single, multiple}
 use Rattle.resolving.specs.Result.{resultBytes}
 use Rattle.served.specs.declared.ServedAnswer.{ServedAnswer}

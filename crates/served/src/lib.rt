@@ -1,16 +1,16 @@
 // A plan whose commands are all served, answered without arena and replies: the passes of resolving over no replies at all. Causes 10 and 8; where
 // some command needs replies, that is said. specs/Served.antt says what comes out, specs/Same.antt that resolving would answer the same.
 use config::CacheMode;
-use resolve_pass::Dry;
-use resolve_pass::Room;
-use resolve_step::Walk;
+use resolving_passes::Dry;
+use resolving_passes::Room;
+use resolving_step::Walk;
 use resp3_element::Cursor;
 ghost use mathlib.Core.Path.{_≡_};
 ghost use mathlib.Core.Bool.{true};
 ghost use Prim.Native.Nat.{_≤_};
 ghost use lib.ListN.{length};
-ghost use Rattle.resolve_walk.specs.Same.{resultHead};
-ghost use Rattle.resolve_pass.specs.Passes.{Begins, Fine};
+ghost use Rattle.resolving_walk.specs.Same.{resultHead};
+ghost use Rattle.resolving_passes.specs.Passes.{Begins, Fine};
 ghost use Rattle.config.specs.declared.CacheMode.the-variants.{All};
 ghost use Rattle.plan.specs.Decode.{isPlan};
 ghost use Rattle.served.specs.Served.{ServedIs};
@@ -39,7 +39,7 @@ fn write_served<'a>(
     ensures { λ r. ⌜ WrittenFrom (now (plan .entry)) (now (none .entry)) start transaction n (now (answer .entry)) (now (answer .exit)) r ⌝ }
 {
     let at = caching_cmd::write_result_head(answer, transaction, n);
-    resolve_pass::answer_pass(plan, none, start, CacheMode::All, 0, answer, at)
+    resolving_passes::answer_pass(plan, none, start, CacheMode::All, 0, answer, at)
 }
 
 // A plan that is one, with no replies.
@@ -59,8 +59,8 @@ fn served_checked<'a>(plan: &'a [u8], none: &'a [u8], answer: &mut [u8]) -> Serv
         left: answer.len(),
         short: false,
     };
-    let room = resolve_pass::spend(whole, caching_cmd::head_len(transaction, n));
-    match resolve_pass::dry_pass(plan, none, start, CacheMode::All, 0, room) {
+    let room = resolving_passes::spend(whole, caching_cmd::head_len(transaction, n));
+    match resolving_passes::dry_pass(plan, none, start, CacheMode::All, 0, room) {
         Dry::Wrong => ServedAnswer::NeedsReplies,
         Dry::Short => ServedAnswer::Refused(config::SHORT_ANSWER),
         Dry::Fits => {

@@ -3,6 +3,7 @@
 // Every function is lent bytes that hold a row (shard's specs/Holds.antt) and a command key that lies in its source, as the entry points have checked; none
 // tests that again. A contract speaks of the row that the bytes hold, or of the item or entry that stands at the place given.
 use command_key::CommandKey;
+use config::Now;
 use shard::Position;
 ghost use mathlib.Core.Path.{_≡_};
 ghost use lib.ListN.{length};
@@ -66,21 +67,14 @@ enum Reading {
 }
 
 // What the item at `at` has for a lookup.
-fn read_item(
-    s: &[u8],
-    at: usize,
-    source: &[u8],
-    command: CommandKey,
-    clock: u64,
-    epoch: u64,
-) -> Reading
+fn read_item(s: &[u8], at: usize, source: &[u8], command: CommandKey, when: Now) -> Reading
     requires { ⌜ ItemAt (now s) at × KeyIn (now source) command ⌝ }
-    ensures { λ r. ⌜ ((front back : Row) (it : Item) → Stands (now (s .entry)) at front back it → Reads clock epoch (keyBytes (now (source .entry)) command) it r) ⌝ }
+    ensures { λ r. ⌜ ((front back : Row) (it : Item) → Stands (now (s .entry)) at front back it → Reads (when .clock) (when .epoch) (keyBytes (now (source .entry)) command) it r) ⌝ }
 {
-    if epoch != shard::epoch_of(s, at) {
+    if when.epoch != shard::epoch_of(s, at) {
         return Reading::Stale;
     }
-    if shard::expiry_of(s, at) < clock {
+    if shard::expiry_of(s, at) < when.clock {
         return Reading::Stale;
     }
     match find_entry(s, at, source, command) {
@@ -102,21 +96,14 @@ pub enum Looked {
 }
 
 // What `lookup_in` would answer; nothing changes, and a hit's bytes are those of the shard as it is.
-pub fn peek_in(
-    s: &[u8],
-    key: &[u8],
-    source: &[u8],
-    command: CommandKey,
-    clock: u64,
-    epoch: u64,
-) -> Looked
+pub fn peek_in(s: &[u8], key: &[u8], source: &[u8], command: CommandKey, when: Now) -> Looked
     requires { ⌜ Shard (now s) × KeyIn (now source) command ⌝ }
-    ensures { λ r. ⌜ ((row : Row) → Holds (now (s .entry)) row → Told (now (s .entry)) (lookupOn (now (key .entry)) (keyBytes (now (source .entry)) command) clock epoch row) r) ⌝ }
+    ensures { λ r. ⌜ ((row : Row) → Holds (now (s .entry)) row → Told (now (s .entry)) (lookupOn (now (key .entry)) (keyBytes (now (source .entry)) command) (when .clock) (when .epoch) row) r) ⌝ }
 {
     let Position::At(at) = shard::find(s, key) else {
         return Looked::Miss(0);
     };
-    match read_item(s, at, source, command, clock, epoch) {
+    match read_item(s, at, source, command, when) {
         Reading::Stale => Looked::Miss(shard::entry_count(s, at)),
         Reading::Bare => Looked::Miss(0),
         Reading::Value { skip, len } => Looked::Hit {
@@ -128,21 +115,14 @@ pub fn peek_in(
 
 // Looks the command key's value up under the key: an item that is not current is dropped, another becomes the newest. A hit's bytes are the entry's own, in the row
 // that is left.
-pub fn lookup_in(
-    s: &mut [u8],
-    key: &[u8],
-    source: &[u8],
-    command: CommandKey,
-    clock: u64,
-    epoch: u64,
-) -> Looked
+pub fn lookup_in(s: &mut [u8], key: &[u8], source: &[u8], command: CommandKey, when: Now) -> Looked
     requires { ⌜ Shard (now s) × KeyIn (now source) command ⌝ }
-    ensures { λ r. ⌜ ((row : Row) → Holds (now (s .entry)) row → (now (s .exit) ≡ encShard (length (now (s .entry))) (lookupOn (now (key .entry)) (keyBytes (now (source .entry)) command) clock epoch row .row)) × Told (now (s .exit)) (lookupOn (now (key .entry)) (keyBytes (now (source .entry)) command) clock epoch row) r × BeginsAt (shardPlace (now (key .entry)) (keyBytes (now (source .entry)) command) (lookupOn (now (key .entry)) (keyBytes (now (source .entry)) command) clock epoch row .row)) r) ⌝ }
+    ensures { λ r. ⌜ ((row : Row) → Holds (now (s .entry)) row → (now (s .exit) ≡ encShard (length (now (s .entry))) (lookupOn (now (key .entry)) (keyBytes (now (source .entry)) command) (when .clock) (when .epoch) row .row)) × Told (now (s .exit)) (lookupOn (now (key .entry)) (keyBytes (now (source .entry)) command) (when .clock) (when .epoch) row) r × BeginsAt (shardPlace (now (key .entry)) (keyBytes (now (source .entry)) command) (lookupOn (now (key .entry)) (keyBytes (now (source .entry)) command) (when .clock) (when .epoch) row .row)) r) ⌝ }
 {
     let Position::At(at) = shard::find(s, key) else {
         return Looked::Miss(0);
     };
-    match read_item(s, at, source, command, clock, epoch) {
+    match read_item(s, at, source, command, when) {
         Reading::Stale => {
             let n = shard::entry_count(s, at);
             shard::remove(s, at);

@@ -4,6 +4,7 @@
 // of whatever rows the arena is the image of: what is left is the image of the book's rows after the event, and the answer is the book's.
 use command_key::CommandKey;
 use config::CheckedConfig;
+use config::Now;
 use config::Settings;
 use shard_lookup::Looked;
 ghost use mathlib.Core.Path.{_≡_};
@@ -74,15 +75,14 @@ pub fn peek(
     key: &[u8],
     source: &[u8],
     command: CommandKey,
-    clock: u64,
-    epoch: u64,
+    when: Now,
 ) -> Looked
     requires { ⌜ Arena g (now arena) × KeyIn (now source) command ⌝ }
-    ensures { λ r. ⌜ ((rows : ℕ → Row) → Lent g (now (arena .entry)) rows → Told (now (arena .entry)) (effectIn (setupNow g) (lookup (now (key .entry)) (keyBytes (now (source .entry)) command) clock epoch) rows) r) ⌝ }
+    ensures { λ r. ⌜ ((rows : ℕ → Row) → Lent g (now (arena .entry)) rows → Told (now (arena .entry)) (effectIn (setupNow g) (lookup (now (key .entry)) (keyBytes (now (source .entry)) command) (when .clock) (when .epoch)) rows) r) ⌝ }
 {
     let start = shard_start(g, key);
     let end = start + g.bytes;
-    let found = shard_lookup::peek_in(&arena[start..end], key, source, command, clock, epoch);
+    let found = shard_lookup::peek_in(&arena[start..end], key, source, command, when);
     placed(start, g.bytes, found)
 }
 
@@ -93,15 +93,14 @@ pub fn get(
     key: &[u8],
     source: &[u8],
     command: CommandKey,
-    clock: u64,
-    epoch: u64,
+    when: Now,
 ) -> Looked
     requires { ⌜ Arena g (now arena) × KeyIn (now source) command ⌝ }
-    ensures { λ r. ⌜ ((rows : ℕ → Row) → Lent g (now (arena .entry)) rows → Lent g (now (arena .exit)) (rowsAfter (setupNow g) (on (lookup (now (key .entry)) (keyBytes (now (source .entry)) command) clock epoch)) rows) × Told (now (arena .exit)) (effectIn (setupNow g) (lookup (now (key .entry)) (keyBytes (now (source .entry)) command) clock epoch) rows) r × BeginsAt (arenaPlace (setupNow g) (now (key .entry)) (keyBytes (now (source .entry)) command) (rowsAfter (setupNow g) (on (lookup (now (key .entry)) (keyBytes (now (source .entry)) command) clock epoch)) rows)) r) ⌝ }
+    ensures { λ r. ⌜ ((rows : ℕ → Row) → Lent g (now (arena .entry)) rows → Lent g (now (arena .exit)) (rowsAfter (setupNow g) (on (lookup (now (key .entry)) (keyBytes (now (source .entry)) command) (when .clock) (when .epoch))) rows) × Told (now (arena .exit)) (effectIn (setupNow g) (lookup (now (key .entry)) (keyBytes (now (source .entry)) command) (when .clock) (when .epoch)) rows) r × BeginsAt (arenaPlace (setupNow g) (now (key .entry)) (keyBytes (now (source .entry)) command) (rowsAfter (setupNow g) (on (lookup (now (key .entry)) (keyBytes (now (source .entry)) command) (when .clock) (when .epoch))) rows)) r) ⌝ }
 {
     let start = shard_start(g, key);
     let end = start + g.bytes;
-    let found = shard_lookup::lookup_in(&mut arena[start..end], key, source, command, clock, epoch);
+    let found = shard_lookup::lookup_in(&mut arena[start..end], key, source, command, when);
     placed(start, g.bytes, found)
 }
 

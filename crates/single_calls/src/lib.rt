@@ -2,6 +2,7 @@
 // After `CacheManager::new` and `ShardedLRU::get`, `insert` and `invalidate`. specs/Single.antt says what each returns and leaves.
 use command_key::CommandKey;
 use config::CheckedConfig;
+use config::Now;
 use config::Settings;
 use cursor::Range;
 use shard_lookup::Looked;
@@ -117,14 +118,13 @@ fn counted(counts: Statistics, found: Looked) -> LookedUp
 fn lookup_admitted(
     arena: &mut [u8],
     g: Settings,
-    clock: u64,
-    epoch: u64,
+    when: Now,
     key: &[u8],
     command: &[u8],
     counts: Statistics,
 ) -> LookedUp
     requires { ⌜ Arena g (now arena) ⌝ }
-    ensures { λ r. ⌜ ((rows : ℕ → Row) (next : ℕ) → Lent g (now (arena .entry)) rows → LookupLeft (imaged (setupNow g) rows (lookup (now (key .entry)) (now (command .entry)) clock epoch) (holding (now (arena .entry)) (countsOf counts) next)) (placeLeft (setupNow g) (now (key .entry)) (now (command .entry)) (imaged (setupNow g) rows (lookup (now (key .entry)) (now (command .entry)) clock epoch) (holding (now (arena .entry)) (countsOf counts) next))) (now (arena .exit)) r) ⌝ }
+    ensures { λ r. ⌜ ((rows : ℕ → Row) (next : ℕ) → Lent g (now (arena .entry)) rows → LookupLeft (imaged (setupNow g) rows (lookup (now (key .entry)) (now (command .entry)) (when .clock) (when .epoch)) (holding (now (arena .entry)) (countsOf counts) next)) (placeLeft (setupNow g) (now (key .entry)) (now (command .entry)) (imaged (setupNow g) rows (lookup (now (key .entry)) (now (command .entry)) (when .clock) (when .epoch)) (holding (now (arena .entry)) (countsOf counts) next))) (now (arena .exit)) r) ⌝ }
 {
     let n = command.len();
     if too_long(key.len(), n, 0) {
@@ -134,7 +134,7 @@ fn lookup_admitted(
         };
     }
     let whole = CommandKey::Part(Range { start: 0, end: n });
-    let found = sharded_lru::get(arena, g, key, command, whole, clock, epoch);
+    let found = sharded_lru::get(arena, g, key, command, whole, when);
     counted(counts, found)
 }
 
@@ -144,20 +144,19 @@ pub fn lookup(
     size: u64,
     mode: u64,
     ttl: u64,
-    clock: u64,
-    epoch: u64,
+    when: Now,
     key: &[u8],
     command: &[u8],
     counts: Statistics,
 ) -> LookedUp
-    ensures { λ r. ⌜ ((next : ℕ) → LookupLeft (singleCall size mode ttl (lookup (now (key .entry)) (now (command .entry)) clock epoch) (holding (now (arena .entry)) (countsOf counts) next)) (lookupPlace size mode ttl (now (key .entry)) (now (command .entry)) clock epoch (holding (now (arena .entry)) (countsOf counts) next)) (now (arena .exit)) r) ⌝ }
+    ensures { λ r. ⌜ ((next : ℕ) → LookupLeft (singleCall size mode ttl (lookup (now (key .entry)) (now (command .entry)) (when .clock) (when .epoch)) (holding (now (arena .entry)) (countsOf counts) next)) (lookupPlace size mode ttl (now (key .entry)) (now (command .entry)) (when .clock) (when .epoch) (holding (now (arena .entry)) (countsOf counts) next)) (now (arena .exit)) r) ⌝ }
 {
     match sharded_lru::admit(arena, size, mode, ttl) {
         Admitted::Refused(n) => LookedUp {
             found: Found::Denied(n),
             counts,
         },
-        Admitted::Admits(g) => lookup_admitted(arena, g, clock, epoch, key, command, counts),
+        Admitted::Admits(g) => lookup_admitted(arena, g, when, key, command, counts),
     }
 }
 

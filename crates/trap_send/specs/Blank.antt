@@ -17,25 +17,26 @@ use Rattle.book.specs.Sound.{sound-nil}
 use Rattle.book.specs.Calls.{Wanted}
 use Rattle.arena.specs.Empty.{zeros-empty}
 use Rattle.planning.specs.Ask as asks
+use Rattle.planning.specs.Ask.{ask}
 use Rattle.planning.specs.Outcome as plan
 use Rattle.planning.specs.Sent.{keysOf, sends, sentBytes}
 use Rattle.planning.specs.Small.{parts-count}
-use Rattle.ask.specs.Asked.{severalName, pathIn, keysIn, wantedIn, SeveralIn}
-use Rattle.ask.specs.declared.Several.{Several}
+use Rattle.planning_ask.specs.Asked.{severalName, pathIn, keysIn, wantedIn, SeveralIn}
+use Rattle.planning_ask.specs.declared.Several.{Several}
 use Rattle.sharded_lru.specs.Laws.{sized}
 use Rattle.sharded_lru.specs.Lent.{setupNow, Lent, Arena}
-use Rattle.cached_cmd.specs.Result.{placeOn, placesOn, outcomeFor, severalItem, Tells}
-use Rattle.cached_cmd.specs.Places.{tells-nothing, tells-uncacheable, tells-item, outcome-one, outcome-several, single-miss, several-served, several-missing}
-use Rattle.cached_cmd.specs.declared.Served.the-variants.{Values}
-use Rattle.cached_cmd.specs.declared.CacheableCommand.the-variants.{Single, Multiple}
-use Rattle.cached_cmd.specs.declared.PrepCacheItem.the-variants.{Cached, NotCached, NotCacheable}
-use Rattle.cached_cmd.specs.declared.CachingResult.the-variants.{Item, Ignored}
-use Rattle.look_up.specs.Finds.{lent-same}
-use Rattle.several_keys.specs.Source.{keysAt, KeysIn}
-use Rattle.several_keys.specs.declared.Source.{Source}
-use Rattle.several_keys.specs.declared.Source.the-variants.{Keys}
-use Rattle.plan_sizes.specs.Sizes.{sentFor}
-use Rattle.pack_command.specs.Sends.{sentWith, ResultSends, Holds, sent-held}
+use Rattle.planning_outcome.specs.Result.{placeOn, placesOn, outcomeFor, severalItem, Tells}
+use Rattle.planning_outcome.specs.Places.{tells-nothing, tells-uncacheable, tells-item, outcome-one, outcome-several, single-miss, several-served, several-missing}
+use Rattle.planning_outcome.specs.declared.Served.the-variants.{Values}
+use Rattle.planning_outcome.specs.declared.CacheableCommand.the-variants.{Single, Multiple}
+use Rattle.planning_outcome.specs.declared.PrepCacheItem.the-variants.{Cached, NotCached, NotCacheable}
+use Rattle.planning_outcome.specs.declared.CachingResult.the-variants.{Item, Ignored}
+use Rattle.planning_look_up.specs.Finds.{lent-same}
+use Rattle.planning_places.specs.Source.{keysAt, KeysIn}
+use Rattle.planning_places.specs.declared.Source.{Source}
+use Rattle.planning_places.specs.declared.Source.the-variants.{Keys}
+use Rattle.planning_outcome.specs.Sizes.{sentFor}
+use Rattle.planning_send.specs.Sends.{sentWith, ResultSends, Holds, sent-held}
 use Rattle.trap_send.specs.declared.Waiting.{Waiting}
 
 -- rows with no item
@@ -69,7 +70,7 @@ zeros-blank g a w z =
 
 -- what is sent for the command where nothing is held
 pub record Waits (g : Settings) (t e : ℕ) (s : Bytes) (h : Head) (r : Waiting) : Type 0 where
-  pub sent : sentFor (setupNow g) noRows t e g (commandOf s h) ≡ sentWith (g .mode) s h s (r .keys) (r .result)
+  pub sent : sentFor (setupNow g) noRows t e (ask g t) (g .mode) (commandOf s h) ≡ sentWith (g .mode) s h s (r .keys) (r .result)
   pub inside : ResultSends s s (r .keys) (r .result)
 
 -- ---- every key waits
@@ -95,23 +96,23 @@ module _ (g : Settings) (t e : ℕ) (s : Bytes) (h : Head) (l : length s ≤ max
   c = commandOf s h
 
   -- by what the outcome tells
-  waits-told : (r : Waiting) → Tells (setupNow g) noRows t e s [] c (outcomeFor (setupNow g) noRows t e g c) (r .result)
+  waits-told : (r : Waiting) → Tells (setupNow g) noRows t e s [] c (outcomeFor (setupNow g) noRows t e (ask g t) c) (r .result)
       → Holds g noRows t e s s (r .keys) (r .result) → Waits g t e s h r
   waits-told r w k =
       let z = sent-held (g .mode) g noRows t e s [] h s (r .keys) l (r .result) (w .inside) k in
       record { sent = ap (λ (o : plan.CachingResult). sentBytes (sends (g .mode) c o)) (sym (w .is)) ∙ z .0; inside = z .1 }
 
   pub waits-nothing : (f : Source) → asks.ask g t c ≡ asks.nothing → Waits g t e s h (record { result = Ignored; keys = f })
-  waits-nothing f q = waits-told _ (tells-nothing (setupNow g) noRows t e s [] g c q) tt
+  waits-nothing f q = waits-told _ (tells-nothing (setupNow g) noRows t e s [] (ask g t) c q) tt
 
   pub waits-uncacheable : (f : Source) → asks.ask g t c ≡ asks.uncacheable → Waits g t e s h (record { result = Item NotCacheable; keys = f })
-  waits-uncacheable f q = waits-told _ (tells-uncacheable (setupNow g) noRows t e s [] g c q) tt
+  waits-uncacheable f q = waits-told _ (tells-uncacheable (setupNow g) noRows t e s [] (ask g t) c q) tt
 
   pub waits-one : (f : Source) (k : Range) (x : ℕ) → RangeIn s k → asks.ask g t c ≡ asks.oneKey (rangeBytes s k) x
       → Waits g t e s h (record { result = Item (NotCached (Single k x)); keys = f })
   waits-one f k x i q =
       waits-told _
-      (tells-item (setupNow g) noRows t e s [] g c _ _ (outcome-one (setupNow g) noRows t e g c (rangeBytes s k) x q)
+      (tells-item (setupNow g) noRows t e s [] (ask g t) c _ _ (outcome-one (setupNow g) noRows t e (ask g t) c (rangeBytes s k) x q)
       (single-miss (setupNow g) noRows t e s [] c k x 0 i (place-waits g t e (plan.wholeKey c (rangeBytes s k)))))
       tt
 
@@ -122,17 +123,17 @@ module _ (g : Settings) (t e : ℕ) (s : Bytes) (h : Head) (l : length s ≤ max
         sym (ap length (all-missing g t e (wantedIn s v)) ∙ parts-count (severalName (v .json)) (pathIn s v) (keysIn s v)
         ∙ length-take-le (v .keys) _ (i .enough))
 
-    outcome-is : outcomeFor (setupNow g) noRows t e g c ≡ plan.item (severalItem (setupNow g) noRows t e s v x)
-    outcome-is = outcome-several (setupNow g) noRows t e g c s v x q
+    outcome-is : outcomeFor (setupNow g) noRows t e (ask g t) c ≡ plan.item (severalItem (setupNow g) noRows t e s v x)
+    outcome-is = outcome-several (setupNow g) noRows t e (ask g t) c s v x q
 
     -- none
     pub waits-none : (f : Source) → v .keys ≡ 0 → Waits g t e s h (record { result = Item (Cached (Values v)); keys = f })
     waits-none f z =
-        waits-told _ (tells-item (setupNow g) noRows t e s [] g c _ _ outcome-is (several-served (setupNow g) noRows t e s [] c v i x (v .keys) number z)) tt
+        waits-told _ (tells-item (setupNow g) noRows t e s [] (ask g t) c _ _ outcome-is (several-served (setupNow g) noRows t e s [] c v i x (v .keys) number z)) tt
 
     -- some
     pub waits-several : (v .keys ≡ 0 → ⊥) → Waits g t e s h (record { result = Item (NotCached (Multiple v (v .keys) x)); keys = Keys (v .args) })
     unfolding keysAt KeysIn
     waits-several z =
-        waits-told _ (tells-item (setupNow g) noRows t e s [] g c _ _ outcome-is (several-missing (setupNow g) noRows t e s [] c v i x (v .keys) number z))
+        waits-told _ (tells-item (setupNow g) noRows t e s [] (ask g t) c _ _ outcome-is (several-missing (setupNow g) noRows t e s [] c v i x (v .keys) number z))
         (sym (ap keysOf (all-missing g t e (wantedIn s v)) ∙ keys-of (severalName (v .json)) (pathIn s v) (keysIn s v)), (i .here, i .enough))

@@ -20,16 +20,16 @@ use Rattle.cursor.specs.declared.Commands.{Commands}
 use Rattle.cmd.specs.Laws.{Wrote}
 use Rattle.book.specs.Book.{Row, Counts, plus}
 use Rattle.arena.specs.Decode.{readArena}
-use Rattle.planning.specs.Ask.{anyLate}
+use Rattle.planning.specs.Ask.{ask, anyLate}
 use Rattle.sharded_lru.specs.Lent.{setupNow, Lent}
 use Rattle.sharded_lru.specs.Admit.{admitted, admits}
 use Rattle.sharded_lru.specs.declared.Admitted.the-variants.{Admits, Refused}
-use Rattle.plan_sizes.specs.Sizes.{allSent}
-use Rattle.pipeline.specs.Wrapped.{startBytes, endBytes}
+use Rattle.planning_outcome.specs.Sizes.{allSent}
+use Rattle.planning_send_len.specs.Wrapped.{startBytes, endBytes}
 use Rattle.trap_send.specs.Walk.{Fits}
-use Rattle.dry_pass.specs.Room.{spent, whole}
-use Rattle.dry_pass.specs.Dry.{Planable}
-use Rattle.dry_pass.specs.declared.Room.{Room}
+use Rattle.planning_dry_pass.specs.Room.{spent, whole}
+use Rattle.planning_dry_pass.specs.Dry.{Planable}
+use Rattle.planning_dry_pass.specs.declared.Room.{Room}
 use Rattle.single_calls.specs.Setup.{freshArena}
 use Rattle.cache_manager.specs.Pipeline.{recorded, admittedTo, planCall}
 use Rattle.cache_manager.specs.Planned.{planBytes, sendBytes, sendNow, late-refused, short-refused, all-written}
@@ -128,11 +128,11 @@ module _ (s f a : Bytes) (g : Settings) (k : Commands) (q : k ≡ commandCursor 
 -- ---- the room that was counted down
 
 module _ (f a : Bytes) (g : Settings) (b : Bool) (cs : List Command) (w : ℕ) (x z : Room) (i : w ≡ length (startBytes b) + length (endBytes b))
-    (u : x ≡ spent (whole (length f)) w) (j : (rows : ℕ → Row) → Lent g a rows → z ≡ spent x (length (allSent (setupNow g) rows 0 0 g cs))) where
+    (u : x ≡ spent (whole (length f)) w) (j : (rows : ℕ → Row) → Lent g a rows → z ≡ spent x (length (allSent (setupNow g) rows 0 0 (ask g 0) (g .mode) cs))) where
   -- is short exactly if the send buffer is
   pub room-says : (rows : ℕ → Row) → Lent g a rows → z .short ≡ ltb (length f) (length (sendBytes (setupNow g) rows 0 0 g b cs))
   room-says rows o =
-      ap (λ (r : Room). r .short) (j rows o ∙ ap (λ (r : Room). spent r (length (allSent (setupNow g) rows 0 0 g cs))) u)
+      ap (λ (r : Room). r .short) (j rows o ∙ ap (λ (r : Room). spent r (length (allSent (setupNow g) rows 0 0 (ask g 0) (g .mode) cs))) u)
       ∙ send-short (setupNow g) rows 0 0 g b cs (length f) w i
 
   -- so what is sent fits where the room was not short

@@ -17,12 +17,13 @@ use Rattle.cmd.specs.Laws.{Wrote}
 use Rattle.book.specs.Book.{Row}
 use Rattle.plan_write.specs.Wrote.{wrote-none, wrote-both, wrote-long, room-first, room-second}
 use Rattle.sharded_lru.specs.Lent.{setupNow, Lent, Arena}
-use Rattle.plan_sizes.specs.Sizes.{sentFor, allSent}
-use Rattle.pipeline.specs.Wrapped.{startBytes, endBytes}
+use Rattle.planning_outcome.specs.Sizes.{sentFor, allSent}
+use Rattle.planning_send_len.specs.Wrapped.{startBytes, endBytes}
 use Rattle.cache_manager.specs.Planned.{sendBytes}
-use Rattle.dry_pass.specs.Room.{spent, spent-none, spent-more}
-use Rattle.dry_pass.specs.Dry.{Planable, planable-next}
-use Rattle.dry_pass.specs.declared.Room.{Room}
+use Rattle.planning_dry_pass.specs.Room.{spent, spent-none, spent-more}
+use Rattle.planning_dry_pass.specs.Dry.{Planable, planable-next}
+use Rattle.planning_dry_pass.specs.declared.Room.{Room}
+use Rattle.planning.specs.Ask.{ask}
 
 -- ---- what is written by the rows that the arena holds
 
@@ -37,7 +38,7 @@ Puts g a all d to d₁ e = (rows : ℕ → Row) → Lent g a rows → Wrote d to
 module _ (g : Settings) (a s : Bytes) (t e : ℕ) where
   -- what is sent for the m commands at `at`, by the rows
   abbrev pub sentAt : ℕ → ℕ → (ℕ → Row) → Bytes
-  sentAt m at rows = allSent (setupNow g) rows t e g (commandsAt s m at)
+  sentAt m at rows = allSent (setupNow g) rows t e (ask g t) (g .mode) (commandsAt s m at)
 
   -- for none
   sent-end : (m at : ℕ) → m ≡ 0 → (rows : ℕ → Row) → sentAt m at rows ≡ []
@@ -47,7 +48,7 @@ module _ (g : Settings) (a s : Bytes) (t e : ℕ) where
   module _ (m n at x : ℕ) (h : Head) (k : m ≡ n + 1) (d : h ≡ headAt s at) (f : x ≡ commandNext s at) where
     -- for the first, by itself
     abbrev first : (ℕ → Row) → Bytes
-    first rows = sentFor (setupNow g) rows t e g (commandOf s h)
+    first rows = sentFor (setupNow g) rows t e (ask g t) (g .mode) (commandOf s h)
 
     -- for the first, and then for the others
     sent-more : (rows : ℕ → Row) → sentAt m at rows ≡ first rows ++ sentAt n x rows
@@ -95,7 +96,7 @@ module _ (g : Settings) (a s : Bytes) (t e : ℕ) where
 
     module _ (d₀ : Bytes) (to₀ m n at x : ℕ) (h : Head) (k : m ≡ n + 1) (i : h ≡ headAt s at) (d : Bytes) (to : ℕ) where
       -- there is room for the first
-      pub writing-room : x ≡ commandNext s at → Writing d₀ to₀ m at d to → Fits g a (λ rows. sentFor (setupNow g) rows t e g (commandOf s h)) to (length d)
+      pub writing-room : x ≡ commandNext s at → Writing d₀ to₀ m at d to → Fits g a (λ rows. sentFor (setupNow g) rows t e (ask g t) (g .mode) (commandOf s h)) to (length d)
       writing-room f w =
           λ rows o. room-first (sentAt m at rows) (first m n at x h k i f rows) (sentAt n x rows) to (length d) (sent-more m n at x h k i f rows)
           (w .room rows o)
@@ -128,7 +129,7 @@ module _ (g : Settings) (a : Bytes) (t e : ℕ) (b : Bool) (cs : List Command) (
     (room : Fits g a (λ rows. sendBytes (setupNow g) rows t e g b cs) 0 (length f)) where
   -- what is sent for the commands, and what stands behind `MULTI`
   abbrev commandsSent : (ℕ → Row) → Bytes
-  commandsSent rows = allSent (setupNow g) rows t e g cs
+  commandsSent rows = allSent (setupNow g) rows t e (ask g t) (g .mode) cs
 
   abbrev tailSent : (ℕ → Row) → Bytes
   tailSent rows = commandsSent rows ++ endBytes b

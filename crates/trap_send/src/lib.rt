@@ -1,17 +1,18 @@
 // What the program trap_plan sends: the call record is planned, at clock 0 in mode All, on a cache of four keys that holds nothing (docs/BEHAVIOUR.md, T1).
 // A plan of such a record can be far longer than what is sent for it, so none is written: planning's own pieces are: on the empty cache
 // every key waits. specs/Send.antt says what is written.
-use ask::Asked;
-use cached_cmd::CacheableCommand;
-use cached_cmd::CachingResult;
-use cached_cmd::PrepCacheItem;
-use cached_cmd::Served;
 use call_record::Checked;
+use config::Now;
 use config::Settings;
 use cursor::Commands;
 use cursor::Head;
-use dry_pass::Room;
-use several_keys::Source;
+use planning_ask::Asked;
+use planning_dry_pass::Room;
+use planning_outcome::CacheableCommand;
+use planning_outcome::CachingResult;
+use planning_outcome::PrepCacheItem;
+use planning_outcome::Served;
+use planning_places::Source;
 use sharded_lru::Admitted;
 ghost use mathlib.Core.Path.{_≡_};
 ghost use Prim.Native.Nat.{ℕ, _≤_};
@@ -22,14 +23,15 @@ ghost use Rattle.call_record.specs.declared.Checked.the-variants.{Fine};
 ghost use Rattle.cursor.specs.At.{commandOf, commandsOf, recordAt};
 ghost use Rattle.book.specs.Book.{Row, Counts};
 ghost use Rattle.sharded_lru.specs.Lent.{setupNow, Lent, Arena};
-ghost use Rattle.plan_sizes.specs.Sizes.{sentFor, allSent};
+ghost use Rattle.planning_outcome.specs.Sizes.{sentFor, allSent};
 ghost use Rattle.trap_send.specs.Walk.{Fits, Puts};
 ghost use Rattle.trap_send.specs.Blank.{Blank, Waits};
-ghost use Rattle.dry_pass.specs.Room.{spent};
-ghost use Rattle.dry_pass.specs.Dry.{Planable, One};
+ghost use Rattle.planning_dry_pass.specs.Room.{spent};
+ghost use Rattle.planning_dry_pass.specs.Dry.{Planable, One};
 ghost use Rattle.cache_manager.specs.Pipeline.{recorded, admittedTo};
 ghost use Rattle.cache_manager.specs.Planned.{sendBytes};
 ghost use Rattle.trap_send.specs.Send.{maxRecord, held, output, outputOf, Settles, sendsWith, Within};
+ghost use Rattle.planning.specs.Ask.{ask};
 
 // The longest record that is planned.
 pub const MAX_RECORD: usize = 65_536;
@@ -49,11 +51,11 @@ pub enum Sent {
 }
 
 // How long that is which is sent for a command.
-fn command_len(bytes: &[u8], head: Head, arena: &[u8], g: Settings, clock: u64, epoch: u64) -> usize
-    requires { ⌜ One g clock (now bytes) head × (length (now bytes) ≤ maxBytes) × Arena g (now arena) ⌝ }
-    ensures { λ r. ⌜ ((rows : ℕ → Row) → Lent g (now (arena .entry)) rows → r ≡ length (sentFor (setupNow g) rows clock epoch g (commandOf (now (bytes .entry)) head))) ⌝ }
+fn command_len(bytes: &[u8], head: Head, arena: &[u8], g: Settings, when: Now) -> usize
+    requires { ⌜ One g (when .clock) (now bytes) head × (length (now bytes) ≤ maxBytes) × Arena g (now arena) ⌝ }
+    ensures { λ r. ⌜ ((rows : ℕ → Row) → Lent g (now (arena .entry)) rows → r ≡ length (sentFor (setupNow g) rows (when .clock) (when .epoch) (ask g (when .clock)) (g .mode) (commandOf (now (bytes .entry)) head))) ⌝ }
 {
-    let size = dry_pass::size_of(bytes, head, arena, g, clock, epoch);
+    let size = planning_dry_pass::size_of(bytes, head, arena, g, when);
     size.send
 }
 
@@ -69,7 +71,7 @@ fn all_wait(bytes: &[u8], head: Head, g: Settings, clock: u64) -> Waiting
     ensures { λ r. ⌜ ((e : ℕ) → Waits g clock e (now (bytes .entry)) head r) ⌝ }
 {
     let args = head.args;
-    match ask::ask(bytes, head, g, clock) {
+    match planning_ask::ask(bytes, head, g, clock) {
         Asked::Nothing => Waiting {
             result: CachingResult::Ignored,
             keys: Source::Keys(args),
@@ -114,38 +116,29 @@ fn write_command(
     head: Head,
     arena: &[u8],
     g: Settings,
-    clock: u64,
-    epoch: u64,
+    when: Now,
 ) -> usize
-    requires { ⌜ One g clock (now bytes) head × (length (now bytes) ≤ maxBytes) × Arena g (now arena) × Fits g (now arena) (λ rows. sentFor (setupNow g) rows clock epoch g (commandOf (now bytes) head)) to (length (now out)) × Blank g (now arena) ⌝ }
-    ensures { λ r. ⌜ Puts g (now (arena .entry)) (λ rows. sentFor (setupNow g) rows clock epoch g (commandOf (now (bytes .entry)) head)) (now (out .entry)) to (now (out .exit)) r ⌝ }
+    requires { ⌜ One g (when .clock) (now bytes) head × (length (now bytes) ≤ maxBytes) × Arena g (now arena) × Fits g (now arena) (λ rows. sentFor (setupNow g) rows (when .clock) (when .epoch) (ask g (when .clock)) (g .mode) (commandOf (now bytes) head)) to (length (now out)) × Blank g (now arena) ⌝ }
+    ensures { λ r. ⌜ Puts g (now (arena .entry)) (λ rows. sentFor (setupNow g) rows (when .clock) (when .epoch) (ask g (when .clock)) (g .mode) (commandOf (now (bytes .entry)) head)) (now (out .entry)) to (now (out .exit)) r ⌝ }
 {
     let mode = g.mode;
-    let w = all_wait(bytes, head, g, clock);
+    let w = all_wait(bytes, head, g, when.clock);
     let result = w.result;
     let keys = w.keys;
-    pack_command::write_sent(out, to, bytes, head, result, mode, bytes, keys)
+    planning_send::write_sent(out, to, bytes, head, result, mode, bytes, keys)
 }
 
 // The room that is left in a buffer once what is sent for the commands is taken.
-fn send_room(
-    bytes: &[u8],
-    k: Commands,
-    arena: &[u8],
-    g: Settings,
-    clock: u64,
-    epoch: u64,
-    room: Room,
-) -> Room
-    requires { ⌜ Planable g clock (now bytes) (k .left) (k .at) × (length (now bytes) ≤ maxBytes) × Arena g (now arena) ⌝ }
-    ensures { λ r. ⌜ ((rows : ℕ → Row) → Lent g (now (arena .entry)) rows → r ≡ spent room (length (allSent (setupNow g) rows clock epoch g (commandsOf (now (bytes .entry)) k)))) ⌝ }
+fn send_room(bytes: &[u8], k: Commands, arena: &[u8], g: Settings, when: Now, room: Room) -> Room
+    requires { ⌜ Planable g (when .clock) (now bytes) (k .left) (k .at) × (length (now bytes) ≤ maxBytes) × Arena g (now arena) ⌝ }
+    ensures { λ r. ⌜ ((rows : ℕ → Row) → Lent g (now (arena .entry)) rows → r ≡ spent room (length (allSent (setupNow g) rows (when .clock) (when .epoch) (ask g (when .clock)) (g .mode) (commandsOf (now (bytes .entry)) k)))) ⌝ }
 {
     let mut at = k.at;
     let mut left = k.left;
     let mut q = room;
     while left > 0 {
         let head = cursor::head_at(bytes, at);
-        q = dry_pass::spend(q, command_len(bytes, head, arena, g, clock, epoch));
+        q = planning_dry_pass::spend(q, command_len(bytes, head, arena, g, when));
         at = cursor::args_end(bytes, head.args);
         left -= 1;
     }
@@ -160,18 +153,17 @@ fn write_commands(
     k: Commands,
     arena: &[u8],
     g: Settings,
-    clock: u64,
-    epoch: u64,
+    when: Now,
 ) -> usize
-    requires { ⌜ Planable g clock (now bytes) (k .left) (k .at) × (length (now bytes) ≤ maxBytes) × Arena g (now arena) × Fits g (now arena) (λ rows. allSent (setupNow g) rows clock epoch g (commandsOf (now bytes) k)) to (length (now out)) × Blank g (now arena) ⌝ }
-    ensures { λ r. ⌜ Puts g (now (arena .entry)) (λ rows. allSent (setupNow g) rows clock epoch g (commandsOf (now (bytes .entry)) k)) (now (out .entry)) to (now (out .exit)) r ⌝ }
+    requires { ⌜ Planable g (when .clock) (now bytes) (k .left) (k .at) × (length (now bytes) ≤ maxBytes) × Arena g (now arena) × Fits g (now arena) (λ rows. allSent (setupNow g) rows (when .clock) (when .epoch) (ask g (when .clock)) (g .mode) (commandsOf (now bytes) k)) to (length (now out)) × Blank g (now arena) ⌝ }
+    ensures { λ r. ⌜ Puts g (now (arena .entry)) (λ rows. allSent (setupNow g) rows (when .clock) (when .epoch) (ask g (when .clock)) (g .mode) (commandsOf (now (bytes .entry)) k)) (now (out .entry)) to (now (out .exit)) r ⌝ }
 {
     let mut at = k.at;
     let mut left = k.left;
     let mut n = to;
     while left > 0 {
         let head = cursor::head_at(bytes, at);
-        n = write_command(out, n, bytes, head, arena, g, clock, epoch);
+        n = write_command(out, n, bytes, head, arena, g, when);
         at = cursor::args_end(bytes, head.args);
         left -= 1;
     }
@@ -186,15 +178,14 @@ fn write_pipeline(
     transaction: bool,
     arena: &[u8],
     g: Settings,
-    clock: u64,
-    epoch: u64,
+    when: Now,
 ) -> usize
-    requires { ⌜ Planable g clock (now bytes) (k .left) (k .at) × (length (now bytes) ≤ maxBytes) × Arena g (now arena) × Fits g (now arena) (λ rows. sendBytes (setupNow g) rows clock epoch g transaction (commandsOf (now bytes) k)) 0 (length (now out)) × Blank g (now arena) ⌝ }
-    ensures { λ r. ⌜ Puts g (now (arena .entry)) (λ rows. sendBytes (setupNow g) rows clock epoch g transaction (commandsOf (now (bytes .entry)) k)) (now (out .entry)) 0 (now (out .exit)) r ⌝ }
+    requires { ⌜ Planable g (when .clock) (now bytes) (k .left) (k .at) × (length (now bytes) ≤ maxBytes) × Arena g (now arena) × Fits g (now arena) (λ rows. sendBytes (setupNow g) rows (when .clock) (when .epoch) g transaction (commandsOf (now bytes) k)) 0 (length (now out)) × Blank g (now arena) ⌝ }
+    ensures { λ r. ⌜ Puts g (now (arena .entry)) (λ rows. sendBytes (setupNow g) rows (when .clock) (when .epoch) g transaction (commandsOf (now (bytes .entry)) k)) (now (out .entry)) 0 (now (out .exit)) r ⌝ }
 {
-    let from = pipeline::write_start(out, 0, transaction);
-    let to = write_commands(out, from, bytes, k, arena, g, clock, epoch);
-    pipeline::write_end(out, to, transaction)
+    let from = planning_send_len::write_start(out, 0, transaction);
+    let to = write_commands(out, from, bytes, k, arena, g, when);
+    planning_send_len::write_end(out, to, transaction)
 }
 
 // A record that is one.
@@ -203,20 +194,21 @@ fn send_record(bytes: &[u8], out: &mut [u8], arena: &[u8], g: Settings) -> Sent
     ensures { λ r. ⌜ ((rows : ℕ → Row) (n : Counts) (next : ℕ) → Lent g (now (arena .entry)) rows → Settles (λ d. outputOf (recorded 0 0 (now (bytes .entry)) d (now (out .entry)) (held (now (arena .entry)) n next) g rows (recordAt (now (bytes .entry))))) (output r (now (out .exit)))) × Within r (length (now (out .entry))) ⌝ }
 {
     let k = cursor::commands_of(bytes);
-    if ask::any_late(bytes, k, g, 0) {
+    if planning_ask::any_late(bytes, k, g, 0) {
         return Sent::Nothing;
     }
     let transaction = cursor::is_transaction(bytes);
+    let start = Now { clock: 0, epoch: 0 };
     let whole = Room {
         left: out.len(),
         short: false,
     };
-    let room = dry_pass::spend(whole, pipeline::wrap_len(transaction));
-    let rest = send_room(bytes, k, arena, g, 0, 0, room);
+    let room = planning_dry_pass::spend(whole, planning_send_len::wrap_len(transaction));
+    let rest = send_room(bytes, k, arena, g, start, room);
     if rest.short {
         return Sent::Nothing;
     }
-    Sent::Front(write_pipeline(out, bytes, k, transaction, arena, g, 0, 0))
+    Sent::Front(write_pipeline(out, bytes, k, transaction, arena, g, start))
 }
 
 // A record of which it is known that it is not too long, on a cache.

@@ -1,7 +1,7 @@
 -- `cache_manager::get_cached_pipeline` meets its contract. Assumes nothing.
 use mathlib.Core.Path.{sym, ap, _∙_}
 use Rattle.sharded_lru.specs.Admit.{admits, enter}
-use Rattle.look_up.specs.Looks.{countsOf}
+use Rattle.planning_look_up.specs.Looks.{countsOf}
 use Rattle.call_entry.specs.Entered.{holding}
 use Rattle.cache_manager.specs.Pipeline.{returnedOf}
 use Rattle.cache_manager.specs.Records as laws
@@ -33,8 +33,8 @@ same-length c = search needs
 returns : tie.Need-returns
 returns c =
     λ next. let a = c .before .before .before .before .before .before .before .before .before .before .args in
-    laws.leaves-all (a .clock) (a .epoch) (a .bytes .now) (a .plan .now) (a .send .now) (a .arena .now) (a .counts) next _ _ _
-    (laws.call-refused (a .size) (a .mode) (a .ttl) (a .clock) (a .epoch) (a .bytes .now) (a .plan .now) (a .send .now)
+    laws.leaves-all (a .when .clock) (a .when .epoch) (a .bytes .now) (a .plan .now) (a .send .now) (a .arena .now) (a .counts) next _ _ _
+    (laws.call-refused (a .size) (a .mode) (a .ttl) (a .when .clock) (a .when .epoch) (a .bytes .now) (a .plan .now) (a .send .now)
     (holding (a .arena .now) (countsOf (a .counts)) next) _ (sym (c .before .before .before .before .admit .ensures) ∙ c .before .before .n .given .1))
     (ap returnedOf (c .refused .ensures .0)) (c .refused .ensures .1)
 
@@ -53,7 +53,7 @@ returns-2 c =
     let d = admits (a .size) (a .mode) (a .ttl) (a .arena .now) _
     (sym (c .before .before .before .before .before .before .before .before .before .before .before .before .before .admit .ensures)
     ∙ c .before .before .before .before .before .before .before .before .before .before .before .g .given .1) in
-    rw (laws.call-admitted (a .size) (a .mode) (a .ttl) (a .clock) (a .epoch) (a .bytes .now) (a .plan .now) (a .send .now)
+    rw (laws.call-admitted (a .size) (a .mode) (a .ttl) (a .when .clock) (a .when .epoch) (a .bytes .now) (a .plan .now) (a .send .now)
     (holding (a .arena .now) (countsOf (a .counts)) next) _ _ (d .fine) (d .read))
     (c .before .before .before .before .before .before .plan-admitted .ensures _ next (d .lent))
 

@@ -4,13 +4,14 @@ use mathlib.Core.Bool.{_||_}
 use lib.ListN.{length}
 use Rattle.cursor.specs.At.{commandsAt}
 use Rattle.sharded_lru.specs.Lent.{setupNow}
-use Rattle.plan_sizes.specs.Sizes.{allNodes, allSent}
-use Rattle.dry_pass.specs.Room.{spent}
-use Rattle.dry_pass.specs.declared.Room.{Room}
+use Rattle.planning_outcome.specs.Sizes.{allNodes, allSent}
+use Rattle.planning_dry_pass.specs.Room.{spent}
+use Rattle.planning_dry_pass.specs.declared.Room.{Room}
 use Rattle.cache_manager.specs.Passed as laws
 use borrow.Author.Needs.{needs}
 use Rattle.cache_manager.proofs.is_short.Statement.{statement}
 use Rattle.cache_manager.proofs.is_short.Tie as tie
+use Rattle.planning.specs.Ask.{ask}
 
 spend-requires : tie.Need-spend-requires
 spend-requires c κs = search needs
@@ -29,11 +30,11 @@ returns c = λ rows o.
     let a = c .before .before .before .before .before .before .args in
     let C = commandsAt (a .bytes .now) (a .k .left) (a .k .at) in
     c .dry-pass .ensures rows o
-    ∙ ap₂ (λ (x : Room) (y : Room). spent x (length (allNodes (setupNow (a .g)) rows (a .clock) (a .epoch) (a .g) C)) .short || spent y
-    (length (allSent (setupNow (a .g)) rows (a .clock) (a .epoch) (a .g) C)) .short)
+    ∙ ap₂ (λ (x : Room) (y : Room). spent x (length (allNodes (setupNow (a .g)) rows (a .when .clock) (a .when .epoch) (ask (a .g) (a .when .clock)) C)) .short || spent y
+    (length (allSent (setupNow (a .g)) rows (a .when .clock) (a .when .epoch) (ask (a .g) (a .when .clock)) (a .g .mode) C)) .short)
     (c .before .before .before .spend .ensures) (c .before .spend2 .ensures)
-    ∙ ap₂ _||_ (laws.plan-short (setupNow (a .g)) rows (a .clock) (a .epoch) (a .g) (a .transaction) C (a .plan))
-    (laws.send-short (setupNow (a .g)) rows (a .clock) (a .epoch) (a .g) (a .transaction) C (a .send) _ (c .before .before .wrap-len .ensures))
+    ∙ ap₂ _||_ (laws.plan-short (setupNow (a .g)) rows (a .when .clock) (a .when .epoch) (a .g) (a .transaction) C (a .plan))
+    (laws.send-short (setupNow (a .g)) rows (a .when .clock) (a .when .epoch) (a .g) (a .transaction) C (a .send) _ (c .before .before .wrap-len .ensures))
 
 pub is-short-spec : {M : Type 1} → statement M
 is-short-spec =

@@ -1,7 +1,7 @@
 -- `cache_manager::plan_admitted` meets its contract. Assumes nothing.
 use mathlib.Core.Path.{refl, sym, ap, _∙_}
 use native.Mathlib.Omega.{arith}
-use Rattle.look_up.specs.Looks.{countsOf}
+use Rattle.planning_look_up.specs.Looks.{countsOf}
 use Rattle.call_entry.specs.Entered.{holding}
 use Rattle.cache_manager.specs.Pipeline.{returnedOf}
 use Rattle.cache_manager.specs.Records as laws
@@ -15,8 +15,8 @@ refused-requires c κs = search needs
 returns : tie.Need-returns
 returns c =
     λ rows next o. let a = c .before .before .before .before .before .before .args in
-    laws.leaves-all (a .clock) (a .epoch) (a .bytes .now) (a .plan .now) (a .send .now) (a .arena .now) (a .counts) next _ _ _
-    (laws.too-long (a .clock) (a .epoch) (a .bytes .now) (a .plan .now) (a .send .now) (holding (a .arena .now) (countsOf (a .counts)) next) (a .g) rows
+    laws.leaves-all (a .when .clock) (a .when .epoch) (a .bytes .now) (a .plan .now) (a .send .now) (a .arena .now) (a .counts) next _ _ _
+    (laws.too-long (a .when .clock) (a .when .epoch) (a .bytes .now) (a .plan .now) (a .send .now) (holding (a .arena .now) (countsOf (a .counts)) next) (a .g) rows
     (c .before .if1 .taken)) (ap returnedOf (c .refused .ensures .0)) (c .refused .ensures .1)
 
 check-requires : tie.Need-check-requires
@@ -39,8 +39,8 @@ plan-record-requires c κs = (
 returns-2 : tie.Need-returns-2
 returns-2 c =
     λ rows next o. let a = c .before .before .before .before .before .before .before .before .before .args in
-    laws.leaves-all (a .clock) (a .epoch) (a .bytes .now) (a .plan .now) (a .send .now) (a .arena .now) (a .counts) next _ _ _
-    (laws.bad-record (a .clock) (a .epoch) (a .bytes .now) (a .plan .now) (a .send .now) (holding (a .arena .now) (countsOf (a .counts)) next) (a .g) rows
+    laws.leaves-all (a .when .clock) (a .when .epoch) (a .bytes .now) (a .plan .now) (a .send .now) (a .arena .now) (a .counts) next _ _ _
+    (laws.bad-record (a .when .clock) (a .when .epoch) (a .bytes .now) (a .plan .now) (a .send .now) (holding (a .arena .now) (countsOf (a .counts)) next) (a .g) rows
     (omega arith) _ (sym (c .before .before .before .check .ensures) ∙ c .before .o .given .1)) refl refl
 
 same-length : tie.Need-same-length
@@ -55,7 +55,7 @@ same-length-3 c = search needs
 returns-3 : tie.Need-returns-3
 returns-3 c =
     λ rows next o. let a = c .before .before .before .before .before .before .before .before .before .before .before .before .before .before .before .before .before .before .args in
-    rw (laws.good-record (a .clock) (a .epoch) (a .bytes .now) (a .plan .now) (a .send .now) (holding (a .arena .now) (countsOf (a .counts)) next) (a .g) rows
+    rw (laws.good-record (a .when .clock) (a .when .epoch) (a .bytes .now) (a .plan .now) (a .send .now) (holding (a .arena .now) (countsOf (a .counts)) next) (a .g) rows
     (omega arith) (sym (c .before .before .before .before .before .before .before .before .before .before .before .before .check .ensures)
     ∙ c .before .before .before .before .before .before .before .before .before .before .enum-told .given .1))
     (c .before .before .before .before .before .before .plan-record .ensures rows next o)

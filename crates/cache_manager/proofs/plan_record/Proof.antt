@@ -1,7 +1,7 @@
 -- `cache_manager::plan_record` meets its contract. Assumes nothing.
 use mathlib.Core.Path.{refl, sym, _∙_}
 use Rattle.arena.specs.Sequence.{bookOf}
-use Rattle.look_up.specs.Looks.{countsOf}
+use Rattle.planning_look_up.specs.Looks.{countsOf}
 use Rattle.call_entry.specs.Entered.{holding}
 use Rattle.cache_manager.specs.Fit.{fit}
 use Rattle.cache_manager.specs.Records as laws
@@ -16,7 +16,7 @@ any-late-requires : tie.Need-any-late-requires
 any-late-requires c κs =
     let w = c .before .before .before .before .before .pre in
     let a = c .before .before .before .before .before .args in
-    laws.here (a .clock) (a .epoch) (a .bytes .now) (a .plan .now) (a .send .now) (a .arena .now) (a .g) _ (a .counts) (c .commands-of .ensures)
+    laws.here (a .when .clock) (a .when .epoch) (a .bytes .now) (a .plan .now) (a .send .now) (a .arena .now) (a .g) _ (a .counts) (c .commands-of .ensures)
     (fit (a .bytes .now) (w .2))
 
 refused-requires : tie.Need-refused-requires
@@ -26,7 +26,7 @@ returns : tie.Need-returns
 returns c =
     λ rows next o. let w = c .before .before .before .before .before .before .before .before .pre in
     let a = c .before .before .before .before .before .before .before .before .args in
-    laws.record-late (a .clock) (a .epoch) (a .bytes .now) (a .plan .now) (a .send .now) (a .arena .now) (a .g) _ (a .counts)
+    laws.record-late (a .when .clock) (a .when .epoch) (a .bytes .now) (a .plan .now) (a .send .now) (a .arena .now) (a .g) _ (a .counts)
     (c .before .before .before .commands-of .ensures) (fit (a .bytes .now) (w .2)) rows next _
     (sym (c .before .before .any-late .ensures) ∙ c .before .if1 .taken) (c .refused .ensures)
 
@@ -37,7 +37,7 @@ is-short-requires : tie.Need-is-short-requires
 is-short-requires c κs =
     let w = c .before .before .before .before .before .before .before .before .before .pre in
     let a = c .before .before .before .before .before .before .before .before .before .args in (
-      laws.ahead (a .clock) (a .epoch) (a .bytes .now) (a .plan .now) (a .send .now) (a .arena .now) (a .g) _ (a .counts)
+      laws.ahead (a .when .clock) (a .when .epoch) (a .bytes .now) (a .plan .now) (a .send .now) (a .arena .now) (a .g) _ (a .counts)
           (c .before .before .before .before .commands-of .ensures) (fit (a .bytes .now) (w .2))
           (sym (c .before .before .before .any-late .ensures) ∙ c .before .before .if1 .left),
       w .1,
@@ -54,7 +54,7 @@ returns-2 : tie.Need-returns-2
 returns-2 c =
     λ rows next o. let w = c .before .before .before .before .before .before .before .before .before .before .before .before .pre in
     let a = c .before .before .before .before .before .before .before .before .before .before .before .before .args in
-    laws.record-short (a .clock) (a .epoch) (a .bytes .now) (a .plan .now) (a .send .now) (a .arena .now) (a .g) _ (a .counts)
+    laws.record-short (a .when .clock) (a .when .epoch) (a .bytes .now) (a .plan .now) (a .send .now) (a .arena .now) (a .g) _ (a .counts)
     (c .before .before .before .before .before .before .before .commands-of .ensures) (fit (a .bytes .now) (w .2)) rows next _ _
     (c .before .before .before .before .is-transaction .ensures)
     (sym (c .before .before .before .before .before .before .any-late .ensures) ∙ c .before .before .before .before .before .if1 .left)
@@ -64,13 +64,13 @@ write-pipeline-requires : tie.Need-write-pipeline-requires
 write-pipeline-requires c κs =
     let w = c .before .before .before .before .before .before .before .before .before .before .before .before .before .before .pre in
     let a = c .before .before .before .before .before .before .before .before .before .before .before .before .before .before .args in (
-      laws.ahead (a .clock) (a .epoch) (a .bytes .now) (a .plan .now) (a .send .now) (a .arena .now) (a .g) _ (a .counts)
+      laws.ahead (a .when .clock) (a .when .epoch) (a .bytes .now) (a .plan .now) (a .send .now) (a .arena .now) (a .g) _ (a .counts)
           (c .before .before .before .before .before .before .before .before .before .commands-of .ensures) (fit (a .bytes .now) (w .2))
           (sym (c .before .before .before .before .before .before .before .before .any-late .ensures)
           ∙ c .before .before .before .before .before .before .before .if1 .left),
       w .1,
       w .0,
-      laws.few (a .clock) (a .epoch) (a .bytes .now) (a .plan .now)
+      laws.few (a .when .clock) (a .when .epoch) (a .bytes .now) (a .plan .now)
           (a .send .now) (a .arena .now) (a .g) _ (a .counts) (c .before .before .before .before .before .before .before .before .before .commands-of .ensures)
           (fit (a .bytes .now) (w .2)),
       λ rows o. laws.not-short _ _ _ _
@@ -90,7 +90,7 @@ returns-3 : tie.Need-returns-3
 returns-3 c =
     λ rows next o. let w = c .before .before .before .before .before .before .before .before .before .before .before .before .before .before .before .before .before .before .before .before .before .pre in
     let a = c .before .before .before .before .before .before .before .before .before .before .before .before .before .before .before .before .before .before .before .before .before .args in
-    laws.record-done (a .clock) (a .epoch) (a .bytes .now) (a .plan .now) (a .send .now) (a .arena .now) (a .g) _ (a .counts)
+    laws.record-done (a .when .clock) (a .when .epoch) (a .bytes .now) (a .plan .now) (a .send .now) (a .arena .now) (a .g) _ (a .counts)
     (c .before .before .before .before .before .before .before .before .before .before .before .before .before .before .before .before .commands-of .ensures)
     (fit (a .bytes .now) (w .2)) rows next _ _
     (c .before .before .before .before .before .before .before .before .before .before .before .before .before .is-transaction .ensures)

@@ -1,6 +1,6 @@
 -- `caching_cmd::store_found` meets its contract. Assumes nothing.
 use Rattle.caching_cmd.specs.Listed as listed
-use Rattle.resolve_pass.specs.declared.Dry.the-variants.{Fits, Short, Wrong}
+use Rattle.resolving_passes.specs.declared.Dry.the-variants.{Fits, Short, Wrong}
 use denote.Ref.{now}
 use borrow.Author.Needs.{needs}
 use Rattle.caching_cmd.proofs.store_found.Statement.{statement}

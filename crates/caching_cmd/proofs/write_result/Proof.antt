@@ -5,8 +5,8 @@ use Prim.Native.Nat.{ℕ, _+_}
 use lib.ListN.{length}
 use Rattle.buffer.specs.Same.{Bytes}
 use Rattle.buffer.specs.Part.{put}
-use Rattle.resolve_walk.specs.Walk.{walk}
-use Rattle.resolve_pass.specs.Passes.{answerBytes}
+use Rattle.resolving_walk.specs.Walk.{walk}
+use Rattle.resolving_passes.specs.Passes.{answerBytes}
 use Rattle.caching_cmd.specs.declared.ResolveAnswer.the-variants.{Answered}
 use borrow.Author.Needs.{needs}
 use Rattle.caching_cmd.proofs.write_result.Statement.{statement}

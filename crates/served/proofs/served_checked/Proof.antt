@@ -4,7 +4,7 @@ use Prim.Native.Nat.{ℕ}
 use lib.ListN.{length}
 use denote.Ref.{now}
 use Rattle.config.specs.declared.CacheMode.the-variants.{All}
-use Rattle.resolve_pass.specs.Passes.{spent}
+use Rattle.resolving_passes.specs.Passes.{spent}
 use Rattle.caching_cmd.specs.Settle.{wholeRoom}
 use Rattle.caching_cmd.specs.Laws.{plan-read}
 use Rattle.caching_cmd.specs.Listed as listed

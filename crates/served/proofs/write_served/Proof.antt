@@ -5,8 +5,8 @@ use lib.ListN.{length}
 use Rattle.buffer.specs.Same.{Bytes}
 use Rattle.buffer.specs.Part.{put}
 use Rattle.config.specs.declared.CacheMode.the-variants.{All}
-use Rattle.resolve_walk.specs.Walk.{walk}
-use Rattle.resolve_pass.specs.Passes.{answerBytes}
+use Rattle.resolving_walk.specs.Walk.{walk}
+use Rattle.resolving_passes.specs.Passes.{answerBytes}
 use Rattle.caching_cmd.specs.Listed as listed
 use borrow.Author.Needs.{needs}
 use Rattle.served.proofs.write_served.Statement.{statement}

@@ -82,19 +82,19 @@ value-ends c =
     let a = c .before .before .before .before .before .before .before .before .before .before .before .before .before .args in
     let h = c .before .before .before .before .before .before .before .before .before .before .before .before .before .pre .0 .holds in
     let g = key (c .before .before .before .before .before) _ h in
-    let v = subst (λ (r : Reading). Reads (a .clock) (a .epoch) (keyBytes (a .source .now) (a .command)) (g .item) r) (c .before .skip .given .1)
+    let v = subst (λ (r : Reading). Reads (a .when .clock) (a .when .epoch) (keyBytes (a .source .now) (a .command)) (g .item) r) (c .before .skip .given .1)
     (c .before .before .before .read-item .ensures (g .place .front) (g .place .back) (g .item) (g .stands)) in
     let m = v .1 in
     let f = fields (g .stands) in
     omega arith
 
-add-t29 : tie.Need-add-t29
+add-t29 : tie.Need-add-t28
 add-t29 c = let e = value-ends (c .before .before .before .before) in omega arith
 
-add-t30 : tie.Need-add-t30
+add-t30 : tie.Need-add-t29
 add-t30 c = let e = value-ends (c .before .before .before .before) in omega arith
 
-add-t31 : tie.Need-add-t31
+add-t31 : tie.Need-add-t30
 add-t31 c = let e = value-ends (c .before .before .before .before) in omega arith
 
 same-length-2 : tie.Need-same-length-2
@@ -104,7 +104,7 @@ returns-2 : tie.Need-returns-2
 returns-2 c row h =
     let g = key (c .before .before .before .before .before .before .before .before .before .before) _ h in
     let a = c .before .before .before .before .before .before .before .before .before .before .before .before .before .before .before .before .before .before .args in
-    let v = subst (λ (r : Reading). Reads (a .clock) (a .epoch) (keyBytes (a .source .now) (a .command)) (g .item) r)
+    let v = subst (λ (r : Reading). Reads (a .when .clock) (a .when .epoch) (keyBytes (a .source .now) (a .command)) (g .item) r)
     (c .before .before .before .before .before .before .enum-told2 .given .1)
     (c .before .before .before .before .before .before .before .before .read-item .ensures (g .place .front) (g .place .back) (g .item) (g .stands)) in
     let f = finds-stale _ _ _ _ row (g .item) (g .is) v in
@@ -122,7 +122,7 @@ returns-3 : tie.Need-returns-3
 returns-3 c row h =
     let g = key (c .before .before .before .before .before .before .before .before) _ h in
     let a = c .before .before .before .before .before .before .before .before .before .before .before .before .before .before .before .before .args in
-    let v = subst (λ (r : Reading). Reads (a .clock) (a .epoch) (keyBytes (a .source .now) (a .command)) (g .item) r)
+    let v = subst (λ (r : Reading). Reads (a .when .clock) (a .when .epoch) (keyBytes (a .source .now) (a .command)) (g .item) r)
     (c .before .before .before .before .enum-told3 .given .1)
     (c .before .before .before .before .before .before .read-item .ensures (g .place .front) (g .place .back) (g .item) (g .stands)) in
     let f = finds-bare _ _ _ _ row (g .item) (g .is) (v .0) (v .1) in
@@ -140,7 +140,7 @@ unfolding rowBytes
 returns-4 c row h =
     let g = key (c .before .before .before .before .before .before .before .before .before) _ h in
     let a = c .before .before .before .before .before .before .before .before .before .before .before .before .before .before .before .before .before .args in
-    let v = subst (λ (r : Reading). Reads (a .clock) (a .epoch) (keyBytes (a .source .now) (a .command)) (g .item) r)
+    let v = subst (λ (r : Reading). Reads (a .when .clock) (a .when .epoch) (keyBytes (a .source .now) (a .command)) (g .item) r)
     (c .before .before .before .before .before .skip .given .1)
     (c .before .before .before .before .before .before .before .read-item .ensures (g .place .front) (g .place .back) (g .item) (g .stands)) in
     let f = finds-value _ _ _ _ row (g .item) (g .is) _ (v .0) (v .2) in

@@ -61,26 +61,26 @@ value-ends c =
     let a = c .before .before .before .before .before .before .before .before .before .before .before .args in
     let h = c .before .before .before .before .before .before .before .before .before .before .before .pre .0 .holds in
     let g = key (c .before .before .before .before) _ h in
-    let v = subst (λ (r : Reading). Reads (a .clock) (a .epoch) (keyBytes (a .source .now) (a .command)) (g .item) r) (c .before .skip .given .1)
+    let v = subst (λ (r : Reading). Reads (a .when .clock) (a .when .epoch) (keyBytes (a .source .now) (a .command)) (g .item) r) (c .before .skip .given .1)
     (c .before .before .before .read-item .ensures (g .place .front) (g .place .back) (g .item) (g .stands)) in
     let m = v .1 in
     let f = fields (g .stands) in
     omega arith
 
-add-t14 : tie.Need-add-t14
+add-t14 : tie.Need-add-t13
 add-t14 c = let e = value-ends c in omega arith
 
-add-t15 : tie.Need-add-t15
+add-t15 : tie.Need-add-t14
 add-t15 c = let e = value-ends c in omega arith
 
-add-t16 : tie.Need-add-t16
+add-t16 : tie.Need-add-t15
 add-t16 c = let e = value-ends c in omega arith
 
 returns-2 : tie.Need-returns-2
 returns-2 c row h =
     let g = key (c .before .before .before .before) _ h in
     let a = c .before .before .before .before .before .before .before .before .before .before .before .args in
-    let v = subst (λ (r : Reading). Reads (a .clock) (a .epoch) (keyBytes (a .source .now) (a .command)) (g .item) r) (c .before .enum-told2 .given .1)
+    let v = subst (λ (r : Reading). Reads (a .when .clock) (a .when .epoch) (keyBytes (a .source .now) (a .command)) (g .item) r) (c .before .enum-told2 .given .1)
     (c .before .before .before .read-item .ensures (g .place .front) (g .place .back) (g .item) (g .stands)) in
     let n = c .entry-count .ensures (g .place .front) (g .place .back) (g .item) (g .stands) in
     tells-miss (a .s .now) _ _ _ _ (finds-stale _ _ _ _ row (g .item) (g .is) v) n
@@ -89,7 +89,7 @@ returns-3 : tie.Need-returns-3
 returns-3 c row h =
     let g = key (c .before .before .before) _ h in
     let a = c .before .before .before .before .before .before .before .before .before .before .args in
-    let v = subst (λ (r : Reading). Reads (a .clock) (a .epoch) (keyBytes (a .source .now) (a .command)) (g .item) r) (c .enum-told3 .given .1)
+    let v = subst (λ (r : Reading). Reads (a .when .clock) (a .when .epoch) (keyBytes (a .source .now) (a .command)) (g .item) r) (c .enum-told3 .given .1)
     (c .before .before .read-item .ensures (g .place .front) (g .place .back) (g .item) (g .stands)) in
     tells-miss (a .s .now) _ _ _ _ (finds-bare _ _ _ _ row (g .item) (g .is) (v .0) (v .1)) refl
 
@@ -97,7 +97,7 @@ returns-4 : tie.Need-returns-4
 returns-4 c row h =
     let g = key (c .before .before .before .before) _ h in
     let a = c .before .before .before .before .before .before .before .before .before .before .before .args in
-    let v = subst (λ (r : Reading). Reads (a .clock) (a .epoch) (keyBytes (a .source .now) (a .command)) (g .item) r) (c .before .skip .given .1)
+    let v = subst (λ (r : Reading). Reads (a .when .clock) (a .when .epoch) (keyBytes (a .source .now) (a .command)) (g .item) r) (c .before .skip .given .1)
     (c .before .before .before .read-item .ensures (g .place .front) (g .place .back) (g .item) (g .stands)) in
     let p = pieces (length (a .s .now)) (g .place .front) (g .place .back) (g .item) (g .stands .holds .is) (g .stands .place) in
     tells-hit p _ _ _ _ _ _ (v .1) (finds-value _ _ _ _ row (g .item) (g .is) _ (v .0) (v .2)) refl refl

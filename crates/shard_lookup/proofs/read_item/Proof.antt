@@ -13,31 +13,31 @@ epoch-of-requires c κs = c .before .before .pre .0
 
 returns : tie.Need-returns
 returns c front back it w =
-    let n = c .before .epoch-of .ensures front back it w in
+    let n = c .before .before .epoch-of .ensures front back it w in
     other-epoch _ _ it (λ q. c .if1 .taken (q ∙ sym n))
 
 expiry-of-requires : tie.Need-expiry-of-requires
-expiry-of-requires c κs = c .before .before .before .before .pre .0
+expiry-of-requires c κs = c .before .before .before .before .before .pre .0
 
 returns-2 : tie.Need-returns-2
 returns-2 c front back it w =
-    let n = c .before .before .before .epoch-of .ensures front back it w in
-    let x = c .before .expiry-of .ensures front back it w in
+    let n = c .before .before .before .before .before .epoch-of .ensures front back it w in
+    let x = c .before .before .expiry-of .ensures front back it w in
     past-expiry _ _ it (omega arith) (omega arith)
 
 find-entry-requires : tie.Need-find-entry-requires
-find-entry-requires c κs = c .before .before .before .before .before .before .pre
+find-entry-requires c κs = c .before .before .before .before .before .before .before .before .pre
 
 enum-known-e : tie.Need-enum-known-e
 enum-known-e c = search needs
 
 -- the command key's entry
 entry : (c : tie.After-known-told)
-    → let a = c .before .before .before .before .before .before .before .before .before .before .args in
-    ValueAt (a .s .now) (a .at) (c .before .before .before .before .before .before .before .before .before .before .pre .0 .item)
+    → let a = c .before .before .before .before .before .before .before .before .before .before .before .before .args in
+    ValueAt (a .s .now) (a .at) (c .before .before .before .before .before .before .before .before .before .before .before .before .pre .0 .item)
     (keyBytes (a .source .now) (a .command)) (c .before .e .given .0 .0)
 entry c =
-    let w = c .before .before .before .before .before .before .before .before .before .before .pre .0 .stands in
+    let w = c .before .before .before .before .before .before .before .before .before .before .before .before .pre .0 .stands in
     value-at w (sym (c .before .before .before .find-entry .ensures _ _ _ w) ∙ c .before .e .given .1)
 
 sub-skip : tie.Need-sub-skip
@@ -69,16 +69,16 @@ enum-told c = search needs
 
 returns-3 : tie.Need-returns-3
 returns-3 c front back it w =
-    let n = c .before .before .before .before .before .before .before .before .before .epoch-of .ensures front back it w in
-    let x = c .before .before .before .before .before .before .before .expiry-of .ensures front back it w in
+    let n = c .before .before .before .before .before .before .before .before .before .before .before .epoch-of .ensures front back it w in
+    let x = c .before .before .before .before .before .before .before .before .expiry-of .ensures front back it w in
     let y = value-at w (sym (c .before .before .before .before .before .find-entry .ensures front back it w) ∙ c .before .before .before .e .given .1) in
     let f = y .fields in
     y .reads _ _ _ _ (in-time _ _ it (omega arith) (omega arith)) (omega arith) (omega arith)
 
 returns-4 : tie.Need-returns-4
 returns-4 c front back it w =
-    let n = c .before .before .before .before .before .before .epoch-of .ensures front back it w in
-    let x = c .before .before .before .before .expiry-of .ensures front back it w in (
+    let n = c .before .before .before .before .before .before .before .before .epoch-of .ensures front back it w in
+    let x = c .before .before .before .before .before .expiry-of .ensures front back it w in (
       in-time _ _ it (omega arith) (omega arith),
       no-value _ _ (it .entries)
           (sym (c .before .before .find-entry .ensures front back it w) ∙ c .enum-told .given .1),

@@ -40,7 +40,7 @@ placed-requires c κs =
     let e = c .before .before .before .shard-start .ensures in
     let a = c .before .before .before .before .before .before .before .args in (
       key-below _ _ w _ _ e,
-      told-here _ _ _ (w .lent) _ (keyBytes (a .source .now) (a .command)) (a .clock) (a .epoch) _ e (c .peek-in .result)
+      told-here _ _ _ (w .lent) _ (keyBytes (a .source .now) (a .command)) (a .when .clock) (a .when .epoch) _ e (c .peek-in .result)
           (c .peek-in .ensures _ (key-holds _ _ _ (w .lent) _ _ e)),
     )
 
@@ -49,7 +49,7 @@ returns c rows w =
     let e = c .before .before .before .before .shard-start .ensures in
     let a = c .before .before .before .before .before .before .before .before .args in
     rw (c .placed .ensures)
-    (peek-told _ _ rows w _ (keyBytes (a .source .now) (a .command)) (a .clock) (a .epoch) _ e (c .before .peek-in .result)
+    (peek-told _ _ rows w _ (keyBytes (a .source .now) (a .command)) (a .when .clock) (a .when .epoch) _ e (c .before .peek-in .result)
     (c .before .peek-in .ensures _ (key-holds _ _ rows w _ _ e)))
 
 pub peek-spec : {M : Type 1} → statement M

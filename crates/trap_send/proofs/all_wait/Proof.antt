@@ -2,8 +2,8 @@
 use mathlib.Core.Path.{_≡_, sym, subst}
 use Rattle.cursor.specs.At.{commandOf}
 use Rattle.planning.specs.Ask.{ask}
-use Rattle.ask.specs.Asked.{askedOf, AskedIn}
-use Rattle.ask.specs.declared.Asked.{Asked}
+use Rattle.planning_ask.specs.Asked.{askedOf, AskedIn}
+use Rattle.planning_ask.specs.declared.Asked.{Asked}
 use Rattle.trap_send.specs.Blank as laws
 use borrow.Author.Needs.{needs}
 use Rattle.trap_send.proofs.all_wait.Statement.{statement}

@@ -5,16 +5,16 @@ use native.Mathlib.Omega.{arith}
 use Rattle.cursor.specs.At.{argsEnd}
 use Rattle.cursor.specs.Steps.{one-more}
 use Rattle.cursor.specs.declared.Head.{Head}
-use Rattle.dry_pass.specs.Dry.{planable-room, planable-first}
+use Rattle.planning_dry_pass.specs.Dry.{planable-room, planable-first}
 use Rattle.trap_send.specs.Walk as laws
 use Rattle.trap_send.proofs.send_room.Statement.{statement}
 use Rattle.trap_send.proofs.send_room.Tie as tie
 
 abbrev Inv-loop : tie.InvT-loop
-Inv-loop bytes arena g clock epoch at₀ left₀ q₀ at left q = laws.Counted g arena bytes clock epoch left₀ at₀ q₀ left at q
+Inv-loop bytes arena g when at₀ left₀ q₀ at left q = laws.Counted g arena bytes (when .clock) (when .epoch) left₀ at₀ q₀ left at q
 
 abbrev μ-loop : tie.MeasureT-loop
-μ-loop bytes arena g clock epoch at₀ left₀ q₀ at left q = left
+μ-loop bytes arena g when at₀ left₀ q₀ at left q = left
 
 loop-holds : tie.Need-loop-holds Inv-loop μ-loop
 loop-holds c = laws.counted-start _ _ _ _ _ _ _ _ (c .before .before .pre .0)

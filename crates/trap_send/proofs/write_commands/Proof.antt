@@ -5,16 +5,16 @@ use native.Mathlib.Omega.{arith}
 use Rattle.cursor.specs.At.{argsEnd}
 use Rattle.cursor.specs.Steps.{one-more}
 use Rattle.cursor.specs.declared.Head.{Head}
-use Rattle.dry_pass.specs.Dry.{planable-room, planable-first}
+use Rattle.planning_dry_pass.specs.Dry.{planable-room, planable-first}
 use Rattle.trap_send.specs.Walk as laws
 use Rattle.trap_send.proofs.write_commands.Statement.{statement}
 use Rattle.trap_send.proofs.write_commands.Tie as tie
 
 abbrev Inv-loop : tie.InvT-loop
-Inv-loop out₀ to bytes arena g clock epoch at₀ left₀ n₀ out at left n = laws.Writing g arena bytes clock epoch left₀ at₀ out₀ n₀ left at out n
+Inv-loop out₀ to bytes arena g when at₀ left₀ n₀ out at left n = laws.Writing g arena bytes (when .clock) (when .epoch) left₀ at₀ out₀ n₀ left at out n
 
 abbrev μ-loop : tie.MeasureT-loop
-μ-loop out₀ to bytes arena g clock epoch at₀ left₀ n₀ out at left n = left
+μ-loop out₀ to bytes arena g when at₀ left₀ n₀ out at left n = left
 
 loop-holds : tie.Need-loop-holds Inv-loop μ-loop
 loop-holds c = let w = c .before .before .before .pre in laws.writing-start _ _ _ _ _ _ _ _ _ (w .0) (w .3)

@@ -1,1 +1,0 @@
-// Definitions and theorems alone: how many bytes planning writes, command by command (specs/).

@@ -1,0 +1,57 @@
+// A key looked up, in place, with its counts. specs/Looks.antt says what lookups make of the book, specs/Finds.antt what one of them finds.
+use command_key::CommandKey;
+use config::Now;
+use config::Settings;
+use cursor::Range;
+use shard_lookup::Looked;
+use statistics::Statistics;
+ghost use mathlib.Core.Path.{_≡_};
+ghost use Rattle.cursor.specs.At.{rangeBytes, RangeIn};
+ghost use Rattle.command_key.specs.Key.{keyBytes, KeyIn};
+ghost use Rattle.book.specs.Calls.{Wanted};
+ghost use Rattle.sharded_lru.specs.Lent.{Arena};
+ghost use Rattle.planning_look_up.specs.Looks.{countedBy};
+ghost use Rattle.planning_look_up.specs.Finds.{Finds};
+
+// The counts after a lookup that was answered so.
+pub fn counted(counts: Statistics, looked: Looked) -> Statistics
+    ensures { λ r. ⌜ r ≡ countedBy counts looked ⌝ }
+{
+    match looked {
+        Looked::Hit { from: _, to: _ } => counts
+            .increase_hit(1)
+            .increase_miss(0)
+            .increase_invalidate(0),
+        Looked::Miss(n) => counts
+            .increase_hit(0)
+            .increase_miss(1)
+            .increase_invalidate(n as u64),
+    }
+}
+
+// What a lookup found, and the counts after it.
+pub struct Found {
+    pub looked: Looked,
+    pub counts: Statistics,
+}
+
+// One key looked up, in place.
+pub fn look_up_key(
+    arena: &mut [u8],
+    bytes: &[u8],
+    key: Range,
+    command: CommandKey,
+    g: Settings,
+    when: Now,
+    counts: Statistics,
+) -> Found
+    requires { ⌜ RangeIn (now bytes) key × KeyIn (now bytes) command × Arena g (now arena) ⌝ }
+    ensures { λ r. ⌜ ((w : Wanted) → w .key ≡ rangeBytes (now (bytes .entry)) key → w .command ≡ keyBytes (now (bytes .entry)) command → Finds g (when .clock) (when .epoch) w (now (arena .entry)) counts (now (arena .exit)) r) ⌝ }
+{
+    let text = cursor::bytes_in(bytes, key);
+    let looked = sharded_lru::get(arena, g, text, bytes, command, when);
+    Found {
+        looked: looked,
+        counts: counted(counts, looked),
+    }
+}

@@ -1,0 +1,5 @@
+pub mod Result
+pub mod Places
+pub mod Joined
+pub mod Sizes
+pub mod Nodes

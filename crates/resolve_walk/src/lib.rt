@@ -1,1 +1,0 @@
-// No code: resolving as one walk over a plan's nodes, equal to its definition, in specs/.

@@ -1,0 +1,4 @@
+pub mod Commands
+pub mod Laws
+pub mod Walk
+pub mod Same
