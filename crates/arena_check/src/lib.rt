@@ -112,7 +112,7 @@ fn mixed(x: u64, w: u64) -> u64
 }
 
 // What a key's mark is made of. Keys of 8 to 32 bytes, as most are, go in by two or four words that hold all their bytes; others by their hash.
-fn marked_by(key: &[u8]) -> u64
+pub fn marked_by(key: &[u8]) -> u64
     ensures { λ r. ⌜ r ≡ markedBy (now (key .entry)) ⌝ }
 {
     let n = key.len();

@@ -9,9 +9,10 @@ use shard_write::Fields;
 ghost use mathlib.Core.Path.{_≡_};
 ghost use Prim.Native.Nat.{_≤_};
 ghost use mathlib.Core.List.{List, _∷_, _++_};
+ghost use mathlib.Core.Option.{none};
 ghost use lib.ListN.{length};
 ghost use Rattle.config.specs.Limits.{maxBytes};
-ghost use Rattle.book.specs.Book.{Entry, Item, Row, newItem, updated, withoutOldest};
+ghost use Rattle.book.specs.Book.{Entry, Item, Row, find, newItem, updated, withoutOldest};
 ghost use Rattle.arena.specs.Edit.{placeAfter};
 ghost use Rattle.arena.specs.Pieces.{itemOf};
 ghost use Rattle.shard.specs.Holds.{Holds, Shard, Stands, ItemAt};
@@ -162,6 +163,27 @@ fn store_update(s: &mut [u8], at: usize, command: &[u8], value: &[u8], expiry: u
     }
 }
 
+// The book's store of a key that the shard does not have, so that nothing is searched for: as the newest item, or where the shard has all its keys in the
+// place of the oldest. What a shard that has the key would be left with is not said.
+pub fn store_new(
+    s: &mut [u8],
+    keys: usize,
+    key: &[u8],
+    command: &[u8],
+    value: &[u8],
+    expiry: u64,
+    epoch: u64,
+) -> bool
+    requires { ⌜ Shard (now s) × Storable (now key) (now command) (now value) × (1 ≤ keys) ⌝ }
+    ensures { λ r. ⌜ ((row : Row) → Holds (now (s .entry)) row → find (now (key .entry)) row ≡ none → Leaves (now (s .entry)) (now (s .exit)) r (storeOn keys (length (now (s .entry))) (now (key .entry)) (now (command .entry)) (now (value .entry)) expiry epoch row)) ⌝ }
+{
+    if (buffer::read_u32(s, 0) as usize) < keys {
+        return store_front(s, key, command, value, expiry, epoch);
+    }
+    let at = oldest(s);
+    store_instead(s, at, key, command, value, expiry, epoch)
+}
+
 // The book's store in a shard of at most `keys` keys: whether the value was kept. Where it was not, cause 11, nothing is changed.
 pub fn store_in(
     s: &mut [u8],
@@ -182,12 +204,6 @@ pub fn store_in(
             }
             store_instead(s, at, key, command, value, expiry, epoch)
         }
-        Position::Absent => {
-            if (buffer::read_u32(s, 0) as usize) < keys {
-                return store_front(s, key, command, value, expiry, epoch);
-            }
-            let at = oldest(s);
-            store_instead(s, at, key, command, value, expiry, epoch)
-        }
+        Position::Absent => store_new(s, keys, key, command, value, expiry, epoch),
     }
 }

@@ -9,11 +9,12 @@ use config::Settings;
 use shard_lookup::Looked;
 ghost use mathlib.Core.Path.{_≡_};
 ghost use mathlib.Core.Bool.{cond, true};
+ghost use mathlib.Core.Option.{none};
 ghost use Prim.Native.Nat.{ℕ, _+_, _*_, _≤_};
 ghost use Rattle.config.specs.Limits.{maxArena};
 ghost use Rattle.resp3.specs.Ends.{isValue};
 ghost use Rattle.siphash.specs.Shard.{shardOf};
-ghost use Rattle.book.specs.Book.{Row, stored, noSpace, plus, lookup, store, invalidate, on, invalidateAll, allEntries};
+ghost use Rattle.book.specs.Book.{Row, find, stored, noSpace, plus, lookup, store, invalidate, on, invalidateAll, allEntries};
 ghost use Rattle.arena.specs.Place.{arenaPlace};
 ghost use Rattle.command_key.specs.Key.{keyBytes, KeyIn};
 ghost use Rattle.shard_lookup.specs.Looked.{Told, BeginsAt};
@@ -127,6 +128,24 @@ pub fn insert(
         expiry,
         epoch,
     )
+}
+
+// The same of a key that no item has, so that nothing is searched for. What an arena that has the key would be left with is not said.
+pub fn insert_new(
+    arena: &mut [u8],
+    g: Settings,
+    key: &[u8],
+    command: &[u8],
+    value: &[u8],
+    expiry: u64,
+    epoch: u64,
+) -> bool
+    requires { ⌜ Arena g (now arena) × Storable (now key) (now command) (now value) × (isValue (now value) ≡ true) ⌝ }
+    ensures { λ r. ⌜ ((rows : ℕ → Row) → Lent g (now (arena .entry)) rows → find (now (key .entry)) (rows (shardOf (now (key .entry)) (g .shards))) ≡ none → Lent g (now (arena .exit)) (rowsAfter (setupNow g) (on (store (now (key .entry)) (now (command .entry)) (now (value .entry)) expiry epoch)) rows) × (cond r stored noSpace ≡ effectIn (setupNow g) (store (now (key .entry)) (now (command .entry)) (now (value .entry)) expiry epoch) rows .answer)) ⌝ }
+{
+    let a = shard_start(g, key);
+    let e = a + g.bytes;
+    shard_store::store_new(&mut arena[a..e], g.keys, key, command, value, expiry, epoch)
 }
 
 // Drops the key's item, and answers how many entries it had.

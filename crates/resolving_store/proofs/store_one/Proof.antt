@@ -38,32 +38,35 @@ part-insert-end-3 c = search needs
 insert-requires : tie.Need-insert-requires
 unfolding part
 insert-requires c κs =
-    let i = law.insertable _ (c .before .before .before .before .before .before .before .pre .4) in
-    (c .before .before .before .before .before .before .before .pre .0, i .0, i .1)
+    let p = c .before .before .before .before .before .before .before .before .before .pre in
+    let i = law.insertable _ (p .4) in
+    (p .0, i .0, i .1, p .5)
 
 same-length : tie.Need-same-length
 same-length c = search needs
 
+same-length-2 : tie.Need-same-length-2
+same-length-2 c = search needs
+
 returns : tie.Need-returns
 unfolding part
 returns c =
-    let x = c .before .before .before .before .before .before .before .before .before .before .before .args in (
-      law.stores-kept _ _ (keeping (now (x .plan)) (now (x .list)) (x .m) (x .from) (x .to)) _ _ _ (c .if1 .taken)
-          (c .before .before .before .insert .ensures),
-      omega arith,
-    )
+    let x = c .before .before .before .before .before .before .before .before .before .before .before .before .before .before .before .args in
+    let e = c .before .before .before .before .before .insert .ensures in
+    (law.stores-kept _ _ (keeping (now (x .plan)) (now (x .list)) (x .m) (x .from) (x .to)) _ _ _ (c .if1 .taken) (e .0), omega arith, e .1)
 
-same-length-2 : tie.Need-same-length-2
-same-length-2 c = search needs
+same-length-3 : tie.Need-same-length-3
+same-length-3 c = search needs
+
+same-length-4 : tie.Need-same-length-4
+same-length-4 c = search needs
 
 returns-2 : tie.Need-returns-2
 unfolding part
 returns-2 c =
-    let x = c .before .before .before .before .before .before .before .before .before .before .before .args in (
-      law.stores-refused _ _ (keeping (now (x .plan)) (now (x .list)) (x .m) (x .from) (x .to)) _ _ _ (c .if1 .left)
-          (c .before .before .before .insert .ensures),
-      omega arith,
-    )
+    let x = c .before .before .before .before .before .before .before .before .before .before .before .before .before .before .before .args in
+    let e = c .before .before .before .before .before .insert .ensures in
+    (law.stores-refused _ _ (keeping (now (x .plan)) (now (x .list)) (x .m) (x .from) (x .to)) _ _ _ (c .if1 .left) (e .0), omega arith, e .1)
 
 pub store-one-spec : {M : Type 1} → statement M
 store-one-spec =
@@ -80,6 +83,8 @@ store-one-spec =
     part-insert-end-3
     insert-requires
     same-length
-    returns
     same-length-2
+    returns
+    same-length-3
+    same-length-4
     returns-2)

@@ -1,106 +1,38 @@
--- `resolving_store::store_pass` meets its contract. Assumes nothing.
-use mathlib.Core.Path.{_≡_, refl, sym, _∙_}
-use mathlib.Core.List.{List}
-use Prim.Native.Nat.{_-_}
-use native.Mathlib.Omega.{arith}
+-- `resolving_store::store_pass` meets its contract: the table of no words tells of every arena. Assumes nothing.
+use Rattle.key_filter.specs.Laws.{filters-none}
 use borrow.Author.Needs.{needs}
-use lib.ListN.{length}
-use Rattle.resp3.specs.Value.{Values}
-use Rattle.planning.specs.Plan.{Node}
-use Rattle.resolving_walk.specs.Walk.{walk}
-use Rattle.resolving_passes.specs.Passes.{Starts}
-use Rattle.resolving_passes.specs.Reached as reached
-use Rattle.resolving_store.specs.Laws as law
 use Rattle.resolving_store.proofs.store_pass.Statement.{statement}
 use Rattle.resolving_store.proofs.store_pass.Tie as tie
 
-abbrev Inv-loop : tie.InvT-loop
-Inv-loop arena₀ g plan list mode clock epoch c₀ refused₀ arena c refused =
-    ((ns : List Node) (es rs : Values) → Starts plan list c₀ ns es rs
-    → law.Kept g epoch plan list mode clock (walk mode clock ns es rs) c arena₀ arena refused) × (length arena ≡ length arena₀)
+slice-aggregate-store-each : tie.Need-slice-aggregate-store-each
+slice-aggregate-store-each c = search needs
 
-abbrev μ-loop : tie.MeasureT-loop
-μ-loop arena₀ g plan list mode clock epoch c₀ refused₀ arena c refused = length plan - c .at
+store-each-requires : tie.Need-store-each-requires
+store-each-requires c κs = (c .before .before .before .before .before .before .pre .0, c .before .before .before .before .before .before .pre .1, filters-none _ _)
 
-loop-holds : tie.Need-loop-holds Inv-loop μ-loop
-loop-holds c = (λ ns es rs h. law.keep-start _ _ _ _ _ _ _ _ ns es rs h, refl)
+same-length : tie.Need-same-length
+same-length c = search needs
 
-step-at-requires : tie.Need-step-at-requires Inv-loop μ-loop
-step-at-requires c κs =
-    let b = c .before .before .before .before .before .before .pre .1 in
-    let x = c .before .before .before .before .before .before .args in
-    let k = c .before .before .loop .inv .0 (b .ns) (b .es) (b .rs) (b .starts) in
-    reached.step-ready _ _ (x .mode) (x .clock) _ (k .reached .rest) (c .if1 .taken)
+returns : tie.Need-returns
+returns c = c .before .before .before .store-each .ensures
 
-is-wrong-requires : tie.Need-is-wrong-requires Inv-loop μ-loop
-is-wrong-requires c κs = search needs
+store-filtered-requires : tie.Need-store-filtered-requires
+store-filtered-requires c κs = search needs
 
-same-length : tie.Need-same-length Inv-loop μ-loop
-same-length c = c .before .before .before .before .before .loop .inv .1
+same-length-2 : tie.Need-same-length-2
+same-length-2 c = search needs
 
-returns : tie.Need-returns Inv-loop μ-loop
-returns c =
-    λ ns es rs h. law.keep-wrong _ _ _ _ _ _ _ _ _ _ _ _ (c .before .before .before .if1 .taken) (c .before .before .step-at .ensures)
-    (sym (c .before .is-wrong .ensures) ∙ c .if2 .taken) (c .before .before .before .before .before .loop .inv .0 ns es rs h)
-
-keep-requires : tie.Need-keep-requires Inv-loop μ-loop
-keep-requires c κs =
-    let b = c .before .before .before .before .before .before .before .before .before .before .pre .1 in
-    let k = c .before .before .before .before .before .before .loop .inv .0 (b .ns) (b .es) (b .rs) (b .starts) in
-    let z = reached.stepped _ _ _ _ _ _ _ _ _ (k .reached) (c .before .before .before .before .if1 .taken) (c .before .before .before .step-at .ensures) in (
-      law.stores-arena _ _ _ _ _ _ (k .stores)
-          (c .before .before .before .before .before .before .before .before .before .before .pre .0),
-      z .inside,
-      z .storable,
-    )
-
-add-refused : tie.Need-add-refused Inv-loop μ-loop
-add-refused c =
-    let b = c .before .before .before .before .before .before .before .before .before .before .before .before .before .pre .1 in
-    let k = c .before .before .before .before .before .before .before .before .before .loop .inv .0 (b .ns) (b .es) (b .rs) (b .starts) in
-    let u = c .before .before .before .before .before .before .before .before .before .before .before .before .before .good .1 .1 .0 in
-    omega (arith, k .few, c .before .before .keep .ensures .1, c .before .before .before .before .before .before .before .if1 .taken, u)
-
-loop-less : tie.Need-loop-less Inv-loop μ-loop
-loop-less c =
-    let b = c .before .before .before .before .before .before .before .before .before .before .before .before .before .before .pre .1 in
-    let k = c .before .before .before .before .before .before .before .before .before .before .loop .inv .0 (b .ns) (b .es) (b .rs) (b .starts) in
-    let z = reached.stepped _ _ _ _ _ _ _ _ _ (k .reached) (c .before .before .before .before .before .before .before .before .if1 .taken)
-    (c .before .before .before .before .before .before .before .step-at .ensures) in
-    let w = sym (c .before .before .before .before .before .before .is-wrong .ensures) ∙ c .before .before .before .before .before .if2 .left in
-    omega (arith, z .far w, z .near w)
-
-loop-again : tie.Need-loop-again Inv-loop μ-loop
-loop-again c = (
-  λ ns es rs h. law.keep-step _ _ _ _ _ _ _ _ _ _ _ _ _ _ (c .before .before .before .before .before .before .before .before .if1 .taken)
-      (c .before .before .before .before .before .before .before .step-at .ensures)
-      (sym (c .before .before .before .before .before .before .is-wrong .ensures) ∙ c .before .before .before .before .before .if2 .left)
-      (c .before .before .before .keep .ensures .0) (c .before .before .before .keep .ensures .1)
-      (c .before .before .before .before .before .before .before .before .before .before .loop .inv .0 ns es rs h),
-  c .before .before .arena .given
-      ∙ c .before .before .before .before .before .before .before .before .before .before .loop .inv .1,
-)
-
-same-length-2 : tie.Need-same-length-2 Inv-loop μ-loop
-same-length-2 c = c .before .before .loop .inv .1
-
-returns-2 : tie.Need-returns-2 Inv-loop μ-loop
-returns-2 c = λ ns es rs h. law.keep-end _ _ _ _ _ _ _ _ _ _ _ (c .if1 .left) (c .before .before .loop .inv .0 ns es rs h)
+returns-2 : tie.Need-returns-2
+returns-2 c = c .before .before .store-filtered .ensures
 
 pub store-pass-spec : {M : Type 1} → statement M
 store-pass-spec =
     tie.close
     (tie.spec
-    Inv-loop
-    μ-loop
-    loop-holds
-    step-at-requires
-    is-wrong-requires
+    slice-aggregate-store-each
+    store-each-requires
     same-length
     returns
-    keep-requires
-    add-refused
-    loop-less
-    loop-again
+    store-filtered-requires
     same-length-2
     returns-2)
