@@ -1,5 +1,6 @@
 // Resolving through C linkage, thin over `caching_cmd::resolve`. include/redis_cache.h says what each parameter means. Assumes nothing of the caller.
 use caching_cmd::ResolveAnswer;
+use config::Now;
 ghost use mathlib.Core.Path.{_≡_};
 ghost use Prim.Native.Nat.{ℕ};
 ghost use Rattle.book.specs.Book.{Counts};
@@ -54,15 +55,6 @@ pub extern "C" fn redis_cache_resolve<'a>(
         now (answer .exit) ≡ resolveBy size mode ttl clock epoch (now (plan .entry)) (now (replies .entry)) (now (answer .entry))
         (now (arena .entry)) lent next .buffer) ⌝ }
 {
-    resolve_return(caching_cmd::resolve(
-        arena,
-        size,
-        mode,
-        ttl,
-        plan,
-        replies,
-        clock,
-        epoch,
-        answer,
-    ))
+    let when = Now { clock, epoch };
+    resolve_return(caching_cmd::resolve(arena, size, mode, ttl, plan, replies, when, answer))
 }

@@ -1,5 +1,6 @@
 // Resolving, after `CacheablePipeline::resolve` of caching/cmd.rs: a plan and the replies to what was sent become the result, and what was fetched is
 // stored. Nothing is asked of the caller: what is wrong is refused by a cause's number. specs/Call.antt says what comes out, for all input.
+use config::Now;
 use config::Settings;
 use resolving_passes::Dry;
 use resolving_step::Walk;
@@ -121,18 +122,17 @@ fn store_if(
     plan: &[u8],
     list: &[u8],
     start: Walk,
-    clock: u64,
-    epoch: u64,
+    when: Now,
     kept: bool,
 ) -> u64
     requires { ⌜ Arena g (now arena) × Begins (now plan) (now list) start ⌝ }
-    ensures { λ r. ⌜ StoredIf g epoch (now (plan .entry)) (now (list .entry)) start clock kept (now (arena .entry)) (now (arena .exit)) r ⌝ }
+    ensures { λ r. ⌜ StoredIf g (when .epoch) (now (plan .entry)) (now (list .entry)) start (when .clock) kept (now (arena .entry)) (now (arena .exit)) r ⌝ }
 {
     let mode = g.mode;
     if !kept {
         return 0;
     }
-    resolving_store::store_pass(arena, g, plan, list, start, mode, clock, epoch)
+    resolving_store::store_pass(arena, g, plan, list, start, mode, when)
 }
 
 // What a resolving stores, by what the dry pass found: where 7 refuses it, what was fetched before the reply that does not fit; where 8 does, nothing.
@@ -142,17 +142,16 @@ fn store_found(
     plan: &[u8],
     list: &[u8],
     start: Walk,
-    clock: u64,
-    epoch: u64,
+    when: Now,
     found: Dry,
 ) -> u64
     requires { ⌜ Arena g (now arena) × Begins (now plan) (now list) start ⌝ }
-    ensures { λ r. ⌜ StoredFor g epoch (now (plan .entry)) (now (list .entry)) start clock found (now (arena .entry)) (now (arena .exit)) r ⌝ }
+    ensures { λ r. ⌜ StoredFor g (when .epoch) (now (plan .entry)) (now (list .entry)) start (when .clock) found (now (arena .entry)) (now (arena .exit)) r ⌝ }
 {
     match found {
-        Dry::Wrong => store_if(arena, g, plan, list, start, clock, epoch, true),
-        Dry::Short => store_if(arena, g, plan, list, start, clock, epoch, false),
-        Dry::Fits => store_if(arena, g, plan, list, start, clock, epoch, true),
+        Dry::Wrong => store_if(arena, g, plan, list, start, when, true),
+        Dry::Short => store_if(arena, g, plan, list, start, when, false),
+        Dry::Fits => store_if(arena, g, plan, list, start, when, true),
     }
 }
 
@@ -194,12 +193,11 @@ fn resolve_list<'a>(
     plan: &'a [u8],
     list: &'a [u8],
     first: Cursor,
-    clock: u64,
-    epoch: u64,
+    when: Now,
     answer: &mut [u8],
 ) -> ResolveAnswer
     requires { ⌜ Arena g (now arena) × (isPlan (now plan) ≡ true) × Listed (now list) first ⌝ }
-    ensures { λ r. ⌜ ListResolved g epoch (now (plan .entry)) (now (list .entry)) first clock (now (arena .entry)) (now (arena .exit))
+    ensures { λ r. ⌜ ListResolved g (when .epoch) (now (plan .entry)) (now (list .entry)) first (when .clock) (now (arena .entry)) (now (arena .exit))
         (now (answer .entry)) (now (answer .exit)) r ⌝ }
 {
     let mode = g.mode;
@@ -211,12 +209,24 @@ fn resolve_list<'a>(
         short: false,
     };
     let room = room::spend(whole, head_len(transaction, n));
-    let found = resolving_passes::dry_pass(plan, list, start, mode, clock, room);
-    let refused = store_found(arena, g, plan, list, start, clock, epoch, found);
+    let found = resolving_passes::dry_pass(plan, list, start, mode, when.clock, room);
+    let refused = store_found(arena, g, plan, list, start, when, found);
     match found {
         Dry::Wrong => refuse_shape(answer),
         Dry::Short => ResolveAnswer::Refused(config::SHORT_ANSWER),
-        Dry::Fits => { write_result(g, plan, list, start, clock, transaction, n, answer, refused) }
+        Dry::Fits => {
+            write_result(
+                g,
+                plan,
+                list,
+                start,
+                when.clock,
+                transaction,
+                n,
+                answer,
+                refused,
+            )
+        }
     }
 }
 
@@ -226,12 +236,11 @@ fn resolve_checked<'a>(
     g: Settings,
     plan: &'a [u8],
     replies: &'a [u8],
-    clock: u64,
-    epoch: u64,
+    when: Now,
     answer: &mut [u8],
 ) -> ResolveAnswer
     requires { ⌜ Arena g (now arena) × (isPlan (now plan) ≡ true) × (isValue (now replies) ≡ true) ⌝ }
-    ensures { λ r. ⌜ CheckedResolved g epoch (now (plan .entry)) (now (replies .entry)) clock (now (arena .entry)) (now (arena .exit))
+    ensures { λ r. ⌜ CheckedResolved g (when .epoch) (now (plan .entry)) (now (replies .entry)) (when .clock) (now (arena .entry)) (now (arena .exit))
         (now (answer .entry)) (now (answer .exit)) r ⌝ }
 {
     match find_list(replies, is_transaction(plan)) {
@@ -246,8 +255,7 @@ fn resolve_checked<'a>(
             plan,
             &replies[from..to],
             first,
-            clock,
-            epoch,
+            when,
             answer,
         ),
     }
@@ -259,12 +267,11 @@ fn resolve_admitted<'a>(
     g: Settings,
     plan: &'a [u8],
     replies: &'a [u8],
-    clock: u64,
-    epoch: u64,
+    when: Now,
     answer: &mut [u8],
 ) -> ResolveAnswer
     requires { ⌜ Arena g (now arena) ⌝ }
-    ensures { λ r. ⌜ AdmittedResolved g epoch (now (plan .entry)) (now (replies .entry)) clock (now (arena .entry)) (now (arena .exit))
+    ensures { λ r. ⌜ AdmittedResolved g (when .epoch) (now (plan .entry)) (now (replies .entry)) (when .clock) (now (arena .entry)) (now (arena .exit))
         (now (answer .entry)) (now (answer .exit)) r ⌝ }
 {
     if !plan_check::is_plan(plan) {
@@ -273,7 +280,7 @@ fn resolve_admitted<'a>(
     if !resp3::is_value(replies) {
         return ResolveAnswer::Refused(config::BAD_REPLY);
     }
-    resolve_checked(arena, g, plan, replies, clock, epoch, answer)
+    resolve_checked(arena, g, plan, replies, when, answer)
 }
 
 // Resolves a plan with the replies: causes 1, 9, 10, 6, 7 and 8, in that order.
@@ -284,16 +291,15 @@ pub fn resolve<'a>(
     ttl: u64,
     plan: &'a [u8],
     replies: &'a [u8],
-    clock: u64,
-    epoch: u64,
+    when: Now,
     answer: &mut [u8],
 ) -> ResolveAnswer
     ensures { λ r. ⌜ ((counts : Counts) (next : ℕ) →
-        Comes (resolveCall size mode ttl (now (plan .entry)) (now (replies .entry)) clock epoch (now (answer .entry))
+        Comes (resolveCall size mode ttl (now (plan .entry)) (now (replies .entry)) (when .clock) (when .epoch) (now (answer .entry))
         (holding (now (arena .entry)) counts next)) r (now (arena .exit)) (now (answer .exit))) ⌝ }
 {
     match sharded_lru::admit(arena, size, mode, ttl) {
         Admitted::Refused(n) => ResolveAnswer::Refused(n),
-        Admitted::Admits(g) => resolve_admitted(arena, g, plan, replies, clock, epoch, answer),
+        Admitted::Admits(g) => resolve_admitted(arena, g, plan, replies, when, answer),
     }
 }

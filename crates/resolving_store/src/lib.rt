@@ -3,6 +3,7 @@
 //
 // The functions are lent a filter of keys that tells of the arena, and keep it true, so that a key that is not there is stored without a search.
 use config::CacheMode;
+use config::Now;
 use config::Settings;
 use resolving_step::Missed;
 use resolving_step::Next;
@@ -79,22 +80,21 @@ fn store_each(
     list: &[u8],
     from: Walk,
     mode: CacheMode,
-    clock: u64,
-    epoch: u64,
+    when: Now,
     seen: &mut [u64],
 ) -> u64
     requires { ⌜ Arena g (now arena) × Begins (now plan) (now list) from × Filters g (now arena) (now seen) ⌝ }
-    ensures { λ r. ⌜ StorePass g epoch (now (plan .entry)) (now (list .entry)) from mode clock (now (arena .entry)) (now (arena .exit)) r ⌝ }
+    ensures { λ r. ⌜ StorePass g (when .epoch) (now (plan .entry)) (now (list .entry)) from mode (when .clock) (now (arena .entry)) (now (arena .exit)) r ⌝ }
 {
     let mut c = from;
     let mut refused: u64 = 0;
     while c.at < plan.len() {
-        let t = resolving_step::step_at(plan, list, c, mode, clock);
+        let t = resolving_step::step_at(plan, list, c, mode, when.clock);
         let next = t.next;
         if resolving_passes::is_wrong(next) {
             return refused;
         }
-        refused += keep(arena, g, plan, list, next, epoch, seen);
+        refused += keep(arena, g, plan, list, next, when.epoch, seen);
         let d = t.walk;
         c = d;
     }
@@ -109,15 +109,14 @@ fn store_filtered(
     list: &[u8],
     from: Walk,
     mode: CacheMode,
-    clock: u64,
-    epoch: u64,
+    when: Now,
 ) -> u64
     requires { ⌜ Arena g (now arena) × Begins (now plan) (now list) from ⌝ }
-    ensures { λ r. ⌜ StorePass g epoch (now (plan .entry)) (now (list .entry)) from mode clock (now (arena .entry)) (now (arena .exit)) r ⌝ }
+    ensures { λ r. ⌜ StorePass g (when .epoch) (now (plan .entry)) (now (list .entry)) from mode (when .clock) (now (arena .entry)) (now (arena .exit)) r ⌝ }
 {
     let mut seen = [0u64; 1024];
     key_filter::fill(arena, g, &mut seen);
-    store_each(arena, g, plan, list, from, mode, clock, epoch, &mut seen)
+    store_each(arena, g, plan, list, from, mode, when, &mut seen)
 }
 
 // Stores from the walk's place on: how many stores there was no space for. A filter pays from some dozens of stores on.
@@ -128,15 +127,14 @@ pub fn store_pass(
     list: &[u8],
     from: Walk,
     mode: CacheMode,
-    clock: u64,
-    epoch: u64,
+    when: Now,
 ) -> u64
     requires { ⌜ Arena g (now arena) × Begins (now plan) (now list) from ⌝ }
-    ensures { λ r. ⌜ StorePass g epoch (now (plan .entry)) (now (list .entry)) from mode clock (now (arena .entry)) (now (arena .exit)) r ⌝ }
+    ensures { λ r. ⌜ StorePass g (when .epoch) (now (plan .entry)) (now (list .entry)) from mode (when .clock) (now (arena .entry)) (now (arena .exit)) r ⌝ }
 {
     if plan.len() < 4096 {
         let mut none = [0u64; 0];
-        return store_each(arena, g, plan, list, from, mode, clock, epoch, &mut none);
+        return store_each(arena, g, plan, list, from, mode, when, &mut none);
     }
-    store_filtered(arena, g, plan, list, from, mode, clock, epoch)
+    store_filtered(arena, g, plan, list, from, mode, when)
 }

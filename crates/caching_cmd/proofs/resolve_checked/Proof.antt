@@ -74,7 +74,7 @@ returns c =
     (c .before .before .before .before .enum-told .given .1)
     (c .before .before .before .before .before .before .find-list .ensures _
     (value-means _ (c .before .before .before .before .before .before .before .before .before .before .before .before .pre .2))) in
-    settle.settle-none _ _ _ _ _ _ _ (listed.none-found (now (x .plan)) _ (x .g .mode) (x .clock) (resp.decode (now (x .replies))) f)
+    settle.settle-none _ _ _ _ _ _ _ (listed.none-found (now (x .plan)) _ (x .g .mode) (x .when .clock) (resp.decode (now (x .replies))) f)
     (heads.all-zeroed _ _ (c .before .before .fill-zero .ensures))
 
 same-length-2 : tie.Need-same-length-2

@@ -51,8 +51,8 @@ write-result-requires c κs =
     let pre = k .before .before .before .before .before .before .before .before .before .before .pre in
     let b = listed.begins _ _ _ _ (k .before .before .before .before .before .start-at .ensures) (pre .1) (pre .2) in
     let q = listed.room-left (length (now (x .answer))) _ _ _ (k .before .spend .ensures) (k .before .before .head-len .ensures) in
-    let f = listed.fine-all _ _ _ (x .g .mode) (x .clock) _ _ _ _ q (k .dry-pass .ensures) (c .before .enum-told3 .given .1) in
-    (b, listed.head-fits _ _ _ (x .g .mode) (x .clock) _ _ b f, f)
+    let f = listed.fine-all _ _ _ (x .g .mode) (x .when .clock) _ _ _ _ q (k .dry-pass .ensures) (c .before .enum-told3 .given .1) in
+    (b, listed.head-fits _ _ _ (x .g .mode) (x .when .clock) _ _ b f, f)
 
 same-length : tie.Need-same-length
 same-length c = search needs
@@ -66,7 +66,7 @@ returns c =
     let x = k .before .before .before .before .before .before .before .before .before .before .before .before .args in
     let pre = k .before .before .before .before .before .before .before .before .before .before .before .before .pre in
     λ v rs e t.
-    listed.list-wrong (x .g) (x .epoch) (now (x .plan)) (now (x .list)) (x .first) _ (x .clock) (now (x .answer)) (pre .1)
+    listed.list-wrong (x .g) (x .when .epoch) (now (x .plan)) (now (x .list)) (x .first) _ (x .when .clock) (now (x .answer)) (pre .1)
     (k .before .before .before .before .before .before .before .start-at .ensures) (pre .2 .small) v rs e t _ _ _ _
     (k .before .before .before .before .before .before .is-transaction .ensures) (k .before .before .before .before .before .command-count .ensures)
     (listed.room-left (length (now (x .answer))) _ _ _ (k .before .before .before .spend .ensures) (k .before .before .before .before .head-len .ensures))
@@ -82,7 +82,7 @@ returns-2 c =
     let x = k .before .before .before .before .before .before .before .before .before .before .before .before .args in
     let pre = k .before .before .before .before .before .before .before .before .before .before .before .before .pre in
     λ v rs e t.
-    listed.list-short (x .g) (x .epoch) (now (x .plan)) (now (x .list)) (x .first) _ (x .clock) (now (x .answer)) (pre .1)
+    listed.list-short (x .g) (x .when .epoch) (now (x .plan)) (now (x .list)) (x .first) _ (x .when .clock) (now (x .answer)) (pre .1)
     (k .before .before .before .before .before .before .before .start-at .ensures) (pre .2 .small) v rs e t _ _ _ _
     (k .before .before .before .before .before .before .is-transaction .ensures) (k .before .before .before .before .before .command-count .ensures)
     (listed.room-left (length (now (x .answer))) _ _ _ (k .before .before .before .spend .ensures) (k .before .before .before .before .head-len .ensures))
@@ -100,7 +100,7 @@ returns-3 c =
     let x = k .before .before .before .before .before .before .before .before .before .before .before .before .args in
     let pre = k .before .before .before .before .before .before .before .before .before .before .before .before .pre in
     λ v rs e t.
-    listed.list-fits (x .g) (x .epoch) (now (x .plan)) (now (x .list)) (x .first) _ (x .clock) (now (x .answer)) (pre .1)
+    listed.list-fits (x .g) (x .when .epoch) (now (x .plan)) (now (x .list)) (x .first) _ (x .when .clock) (now (x .answer)) (pre .1)
     (k .before .before .before .before .before .before .before .start-at .ensures) (pre .2 .small) v rs e t _ _ _ _
     (k .before .before .before .before .before .before .is-transaction .ensures) (k .before .before .before .before .before .command-count .ensures)
     (listed.room-left (length (now (x .answer))) _ _ _ (k .before .before .before .spend .ensures) (k .before .before .before .before .head-len .ensures))

@@ -30,7 +30,7 @@ same-length c = search needs
 returns : tie.Need-returns
 returns c =
     let x = c .before .before .before .before .before .before .before .before .before .args in
-    listed.stored-same (x .g) (x .epoch) (now (x .plan)) (now (x .list)) (x .start) (x .clock) _ _ _
+    listed.stored-same (x .g) (x .when .epoch) (now (x .plan)) (now (x .list)) (x .start) (x .when .clock) _ _ _
     (x .found) Wrong (c .before .before .before .before .enum-told .given .1) (c .before .before .store-if .ensures)
 
 same-length-2 : tie.Need-same-length-2
@@ -39,7 +39,7 @@ same-length-2 c = search needs
 returns-2 : tie.Need-returns-2
 returns-2 c =
     let x = c .before .before .before .before .before .before .before .before .before .args in
-    listed.stored-same (x .g) (x .epoch) (now (x .plan)) (now (x .list)) (x .start) (x .clock) _ _ _
+    listed.stored-same (x .g) (x .when .epoch) (now (x .plan)) (now (x .list)) (x .start) (x .when .clock) _ _ _
     (x .found) Short (c .before .before .before .before .enum-told2 .given .1) (c .before .before .store-if2 .ensures)
 
 same-length-3 : tie.Need-same-length-3
@@ -48,7 +48,7 @@ same-length-3 c = search needs
 returns-3 : tie.Need-returns-3
 returns-3 c =
     let x = c .before .before .before .before .before .before .before .before .before .args in
-    listed.stored-same (x .g) (x .epoch) (now (x .plan)) (now (x .list)) (x .start) (x .clock) _ _ _
+    listed.stored-same (x .g) (x .when .epoch) (now (x .plan)) (now (x .list)) (x .start) (x .when .clock) _ _ _
     (x .found) Fits (c .before .before .before .before .enum-told3 .given .1) (c .before .before .store-if3 .ensures)
 
 pub store-found-spec : {M : Type 1} → statement M

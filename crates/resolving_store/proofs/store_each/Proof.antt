@@ -16,13 +16,13 @@ use Rattle.resolving_store.proofs.store_each.Statement.{statement}
 use Rattle.resolving_store.proofs.store_each.Tie as tie
 
 abbrev Inv-loop : tie.InvT-loop
-Inv-loop arena₀ g plan list mode clock epoch seen₀ c₀ refused₀ arena seen c refused =
+Inv-loop arena₀ g plan list mode when seen₀ c₀ refused₀ arena seen c refused =
     ((ns : List Node) (es rs : Values) → Starts plan list c₀ ns es rs
-    → law.Kept g epoch plan list mode clock (walk mode clock ns es rs) c arena₀ arena refused)
+    → law.Kept g (when .epoch) plan list mode (when .clock) (walk mode (when .clock) ns es rs) c arena₀ arena refused)
     × Filters g arena seen × (length arena ≡ length arena₀) × (length seen ≡ length seen₀)
 
 abbrev μ-loop : tie.MeasureT-loop
-μ-loop arena₀ g plan list mode clock epoch seen₀ c₀ refused₀ arena seen c refused = length plan - c .at
+μ-loop arena₀ g plan list mode when seen₀ c₀ refused₀ arena seen c refused = length plan - c .at
 
 loop-holds : tie.Need-loop-holds Inv-loop μ-loop
 loop-holds c = (λ ns es rs h. law.keep-start _ _ _ _ _ _ _ _ ns es rs h, c .before .before .before .before .pre .2, refl, refl)
@@ -32,7 +32,7 @@ step-at-requires c κs =
     let b = c .before .before .before .before .before .before .before .pre .1 in
     let x = c .before .before .before .before .before .before .before .args in
     let k = c .before .before .loop .inv .0 (b .ns) (b .es) (b .rs) (b .starts) in
-    reached.step-ready _ _ (x .mode) (x .clock) _ (k .reached .rest) (c .if1 .taken)
+    reached.step-ready _ _ (x .mode) (x .when .clock) _ (k .reached .rest) (c .if1 .taken)
 
 is-wrong-requires : tie.Need-is-wrong-requires Inv-loop μ-loop
 is-wrong-requires c κs = search needs
