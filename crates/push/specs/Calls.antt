@@ -1,17 +1,12 @@
--- The ways through the whole call, as laws of its definition; and that it is the book's call on bytes, of which demand 3's sequences are made. Assumes what
--- `Lent` says of the arena.
+-- The ways through the whole call, as laws of its definition. Assumes what `Lent` says of the arena.
 use mathlib.Core.Path.{_≡_, refl, sym, ap, _∙_, subst}
 use Prim.Native.Nat.{ℕ}
 use mathlib.Core.Bool.{true, false}
-use mathlib.Core.Option.{Option, none, some}
 use lib.ListN.{length}
 use lib.Dec.{eqb}
-use Rattle.buffer.specs.Cases.{byTest}
 use Rattle.buffer.specs.Same.{Bytes}
 use Rattle.config.specs.Causes.{badReply}
-use Rattle.config.specs.Config.{checked}
 use Rattle.config.specs.declared.Settings.{Settings}
-use Rattle.config.specs.declared.CheckedConfig.the-variants.{Fine}
 use Rattle.statistics.specs.declared.Statistics.{Statistics}
 use Rattle.resp3.specs.Ends.{isValue}
 use Rattle.resp3.specs.Value.{Means}
@@ -21,18 +16,18 @@ use Rattle.book.specs.Book.{Setup, Row, Counts}
 use Rattle.book.specs.Calls.{afterCall}
 use Rattle.arena.specs.Layout.{encode}
 use Rattle.arena.specs.Decode as arena
-use Rattle.arena.specs.Sequence.{Held, lend, bookOf, callWith, callOn}
+use Rattle.arena.specs.Sequence.{Held, lend, bookOf}
 use Rattle.resolving.specs.Pushes.{pushed}
 use Rattle.sharded_lru.specs.Lent.{setupNow}
 use Rattle.sharded_lru.specs.Admit.{admitted, Entered}
 use Rattle.sharded_lru.specs.declared.Admitted.the-variants.{Refused as NotAdmitted}
-use Rattle.call_entry.specs.Entered.{noCause, holding, onRows, entered}
-use Rattle.call_entry.specs.Laws.{is-entered, not-entered, refused-held}
+use Rattle.call_entry.specs.Entered.{noCause, holding}
+use Rattle.call_entry.specs.Laws.{is-entered, not-entered}
 use Rattle.single_calls.specs.declared.Answered.the-variants.{Done, Refused}
 use Rattle.single_calls.specs.Single.{Return, refusedAs}
 use Rattle.single_calls.specs.Answers.{countsOf, InvalidationLeft}
 use Rattle.single_calls.specs.AnswerLaws.{refused-is}
-use Rattle.push.specs.Push.{callFor, pushedOn, imaged, pushCall}
+use Rattle.push.specs.Push.{pushedOn, imaged, pushCall}
 use Rattle.push.specs.Kept.{Kept, One}
 
 -- ---- causes 1 and 9
@@ -86,23 +81,3 @@ push-left g rows bytes s u lent next sum d e l k =
     let bk = afterCall (setupNow g) (pushed (decode bytes)) (bookOf rows (holding s lent next)) in
     rw e
     (record { answer = refl; cause = refl; arena = sym (k .lent .image .bytes) ∙ ap (λ (n : ℕ). encode (setupNow g) n (bk .rows)) l; counts = k .counts })
-
--- ---- the book's call on bytes
-
--- what a push leaves is what the sequence's call leaves
-pub push-is-call : (size mode ttl : ℕ) (bytes : Bytes) (h : Held) (g : Settings) → checked size mode ttl (length (h .arena)) ≡ Fine g
-    → pushCall size mode ttl bytes h .held ≡ callOn isValue (setupNow g) (callFor bytes) h .held
-unfolding pushCall entered callOn
-push-is-call size mode ttl bytes h g e = rw e (go (arena.decode isValue (setupNow g) (h .arena)) refl)
-  where
-    refused-leaves : (rows : ℕ → Row) → arena.decode isValue (setupNow g) (h .arena) ≡ some rows → isValue bytes ≡ false
-        → imaged (setupNow g) rows bytes h .held ≡ callWith (setupNow g) (some rows) (callFor bytes) h .held
-    refused-leaves rows q t = unfold imaged callWith callFor in rw t (refused-held (setupNow g) rows h q)
-
-    done-leaves : (rows : ℕ → Row) → isValue bytes ≡ true → imaged (setupNow g) rows bytes h .held ≡ callWith (setupNow g) (some rows) (callFor bytes) h .held
-    done-leaves rows t = unfold imaged callWith callFor pushedOn in rw t
-
-    go : (o : Option (ℕ → Row)) → arena.decode isValue (setupNow g) (h .arena) ≡ o
-        → onRows (λ n. refusedAs n h) (λ rows. imaged (setupNow g) rows bytes h) o .held ≡ callWith (setupNow g) o (callFor bytes) h .held
-    go none q = unfold onRows callWith in refl
-    go (some rows) q = unfold onRows in byTest (isValue bytes) (λ t. done-leaves rows t) (λ t. refused-leaves rows q t)

@@ -9,23 +9,21 @@ use lib.ListN.{length}
 use borrow.Author.Tests.{not-false, ltb-false}
 use Rattle.buffer.specs.Cases.{byTest}
 use Rattle.buffer.specs.Same.{Bytes}
-use Rattle.config.specs.Causes.{badConfig, tooLong, badReply, badArena}
+use Rattle.config.specs.Causes.{tooLong, badReply, badArena}
 use Rattle.config.specs.Config.{checked}
 use Rattle.config.specs.declared.Settings.{Settings}
 use Rattle.config.specs.declared.CheckedConfig.the-variants.{Fine}
 use Rattle.resp3.specs.Ends.{isValue}
-use Rattle.book.specs.Book.{Setup, Row, Keyed, lookup, store, invalidate, put, after, answers, afterAll}
+use Rattle.book.specs.Book.{Setup, Row, Keyed, lookup, store, invalidate, answers}
 use Rattle.book.specs.Calls.{Call, single, refused, ons, eventsOf, call-defs}
-use Rattle.book.specs.Counts.{Counted, store-counts}
 use Rattle.book.specs.Storable.{StorableEvents}
 use Rattle.arena.specs.Decode.{mayStore, decode}
-use Rattle.arena.specs.Sequence.{Held, Outcome, noImage, denied, said, Result, outcomeOf, lend, bookOf, callWith, callOn}
+use Rattle.arena.specs.Sequence.{Held, Outcome, noImage, denied, said, Result, outcomeOf, callWith, callOn}
 use Rattle.shard_store.specs.Store.{Storable}
 use Rattle.sharded_lru.specs.Lent.{setupNow}
 use Rattle.sharded_lru.specs.Keeps.{MayStore, may-store}
 use Rattle.call_entry.specs.Entered.{noCause, onRows, entered}
 use Rattle.call_entry.specs.Laws as entry
-use Rattle.call_entry.specs.Laws.{each-entry}
 use Rattle.single_calls.specs.Single.{Return, refusedAs, overlongBy, overlong, wrongBytes, numberOf, servedBy, calledOn, imaged, singleCall}
 
 -- the book's call that the arguments make: one that is refused where 3 or 6 refuses them, since of these the arguments alone decide
@@ -79,31 +77,6 @@ as-call size mode ttl q h g e = rw e (go (decode isValue (setupNow g) (h .arena)
     go (some rows) d =
         unfold onRows in
         byTest (overlong q) (λ t. long rows d t) (λ t. byTest (wrongBytes q) (λ u. wrong rows d t u) (λ u. done rows t u))
-
--- ---- what a single call leaves alone, so that it need not be given it
-
--- what holds where a cause refuses the call, and after the book's call, holds of every single call
-each-way : (P : Return → Type 0) (q : Keyed) (h : Held) → ((n : ℕ) → P (refusedAs n h)) → ((p : Setup) (rows : ℕ → Row) → P (calledOn p rows q h))
-    → (size mode ttl : ℕ) → P (singleCall size mode ttl q h)
-unfolding singleCall imaged
-each-way P q h refuses calls size mode ttl =
-    each-entry (λ n. refusedAs n h) (λ g rows. imaged (setupNow g) rows q h) P (checked size mode ttl (length (h .arena))) (h .arena) (refuses badConfig)
-    (refuses badArena)
-    (λ g rows e d.
-    byTest (overlong q) (λ t. rw t (refuses tooLong))
-    (λ t. byTest (wrongBytes q) (λ u. rw (t, u) (refuses badReply)) (λ u. rw (t, u) (calls (setupNow g) rows))))
-
--- the next number
-pub next-kept : (size mode ttl : ℕ) (q : Keyed) (h : Held) → singleCall size mode ttl q h .held .next ≡ h .next
-unfolding calledOn lend call-defs ons afterAll after put
-next-kept size mode ttl q h = each-way (λ r. r .held .next ≡ h .next) q h (λ n. refl) (λ p rows. refl) size mode ttl
-
--- and a store the counts
-pub counts-kept : (size mode ttl : ℕ) (k c v : Bytes) (x e : ℕ) (h : Held) → Counted (h .counts)
-    → singleCall size mode ttl (store k c v x e) h .held .counts ≡ h .counts
-unfolding calledOn lend call-defs ons afterAll
-counts-kept size mode ttl k c v x e h w =
-    each-way (λ r. r .held .counts ≡ h .counts) (store k c v x e) h (λ n. refl) (λ p rows. store-counts p k c v x e (bookOf rows h) w) size mode ttl
 
 -- ---- what such a call stores may be stored, as the sequences ask
 
