@@ -1,5 +1,5 @@
--- A resolving as a call on the book, and that what it stores may be stored: so demand 3's sequences (arena/specs/Sequence.antt) may have resolvings in them.
--- Assumes nothing.
+-- The book's call that a resolving is, by its arguments alone, and that what it stores may be stored: so demand 3's sequences may have resolvings in them. That
+-- it leaves what the book's call leaves is shown there (demand/specs/ResolveBridge.antt). Assumes nothing.
 use mathlib.Core.Path.{_≡_, refl, subst}
 use mathlib.Core.Bool.{Bool, true, cond}
 use mathlib.Core.List.{List, [], _∷_}

@@ -20,11 +20,12 @@ use Rattle.book.specs.Trace.{SoundBook, sound}
 use Rattle.book.specs.Residence.{itemOf, hasUnder, leaves, ends}
 use Rattle.book.specs.Items.{ifCurrent, turned-defs, item-after}
 use Rattle.call_entry.specs.Entered.{noCause}
+use Rattle.arena.specs.Sequence.{Held, lend}
 use Rattle.demand.specs.Call.{RealCall, Given, setupBy}
-use Rattle.demand.specs.Words.{droppedBy, droppedIn}
 use Rattle.demand.specs.Demand.{heldBy, setup, traceBy}
+use Rattle.demand.specs.CorollaryWords.{droppedBy, droppedIn}
 use Rattle.demand.specs.Laws.{setup-proper, happened-field}
-use Rattle.demand.specs.InTurn.{counts-field}
+use Rattle.demand.specs.InTurn.{AllHeld}
 
 -- what a lookup adds for its key's item: the entries, if the item does not stay
 lookup-drops : (o : Option Item) (k c : Bytes) (t e : ℕ) (row : Row)
@@ -71,11 +72,12 @@ module _ (p : Setup) where
       ∙ ap wrap (omega arith)
 
 module _ (size mode ttl : ℕ) (s : Bytes) (lent : Counts) (set-up : setupBy size mode ttl s .cause ≡ noCause) (counted : Counted lent)
-    (cs : List RealCall) (given : All Given cs) where
-  -- the clause
+    (held : AllHeld size mode ttl s lent) (cs : List RealCall) (given : All Given cs) where
+  -- the corollary
   pub invalidates-field : heldBy size mode ttl s lent cs .counts .invalidates
       ≡ wrap (lent .invalidates + droppedIn (setup size mode ttl s lent) (fresh lent) (traceBy size mode ttl s lent cs))
+  unfolding lend
   invalidates-field =
-      ap (λ (z : Counts). z .invalidates) (counts-field size mode ttl s lent set-up counted cs given)
+      ap (λ (h : Held). h .counts .invalidates) (held cs given)
       ∙ ap (λ (z : Book). z .counts .invalidates) (happened-field size mode ttl s lent set-up cs)
       ∙ trace-drops (setup size mode ttl s lent) (setup-proper size mode ttl s lent set-up .some-key) lent counted (traceBy size mode ttl s lent cs)

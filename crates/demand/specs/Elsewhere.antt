@@ -3,16 +3,15 @@ use mathlib.Core.Path.{_≡_, refl, sym, ap, _∙_}
 use mathlib.Core.List.{List, [], _∷_}
 use Prim.Native.Nat.{ℕ}
 use native.Mathlib.Omega.{arith}
-use lib.Dec.{eqb}
 use lib.ListN.{length}
 use borrow.Author.Tests.{ne-eqb}
 use Rattle.book.specs.Book as book
-use Rattle.book.specs.Book.{Setup, Row, Book, Keyed, keyOf, on, put, effect, after, afterAll}
+use Rattle.book.specs.Book.{Setup, Book, Keyed, keyOf, on, put, effect, after, afterAll}
 use Rattle.book.specs.Calls.{Call, single, ons, invalidations, afterCall, homes, Shards, these, allShards, shardsOf, NotAmong, Apart, NoneCommon, call-defs}
 use Rattle.book.specs.Exchange.{Movable, aSingle, aPush, aPushAll, aRefused, commute}
 use Rattle.book.specs.Trace.{row-elsewhere}
 use Rattle.arena.specs.PlaceLaws.{place-local}
-use Rattle.demand.specs.Call.{placeIn}
+use Rattle.demand.specs.Replies.{placeIn}
 
 -- events with keys leave the row of a shard that is none of theirs
 rows-elsewhere : (p : Setup) (i : ℕ) (qs : List Keyed) (bk : Book) → NotAmong i (homes p qs) → afterAll p (ons qs) bk .rows i ≡ bk .rows i

@@ -1,5 +1,5 @@
--- The clause `newEpochs`: a new epoch answers 1 and as many more as there were before it, wrapping. It is seen on what the caller holds, without the book: no
--- other call is given the next number. Assumes that setup was not refused.
+-- The clause `newEpochs`, and its corollary: a new epoch answers 1 and as many more as there were before it, wrapping. Both are seen on what the caller
+-- holds: no other call is given the next number. Assumes that setup was not refused.
 use mathlib.Core.Path.{_≡_, refl, ap, _∙_}
 use Prim.Native.Nat.{ℕ, _+_, _^_}
 use native.Mathlib.Nat.{mod-add-mod}
@@ -13,8 +13,8 @@ use Rattle.arena.specs.Sequence.{Held}
 use Rattle.call_entry.specs.Entered.{noCause}
 use Rattle.demand.specs.Call as real
 use Rattle.demand.specs.Call.{RealCall, epochTaken, setupBy, afterSetup, step, heldAfter}
-use Rattle.demand.specs.Words.{epochsIn}
-use Rattle.demand.specs.Demand.{heldBy, CallIn, returned}
+use Rattle.demand.specs.Demand.{heldBy, CallIn, returned, bookBefore}
+use Rattle.demand.specs.CorollaryWords.{epochsIn}
 use Rattle.demand.specs.Laws.{fine}
 
 -- each new epoch adds one to the next number, wrapping, and no other call changes it
@@ -41,7 +41,14 @@ module _ (size mode ttl : ℕ) (s : Bytes) (lent : Counts) (set-up : setupBy siz
   unfolding step
   taken before = ap epochTaken (next-after size before (afterSetup size mode ttl s lent) 1 next-one)
 
-  -- the clause
+  -- the clause: what is held is the book's next number
+  pub next-taken : (cs : List RealCall) (a : CallIn size mode ttl s lent cs)
+      → heldBy size mode ttl s lent (a .before) .next ≡ bookBefore size mode ttl s lent a .next
+      → a .call ≡ real.newEpoch → returned size mode ttl s lent a ≡ epochTaken (bookBefore size mode ttl s lent a .next)
+  unfolding step
+  next-taken cs a is q = ap (λ (c : RealCall). step size c (heldBy size mode ttl s lent (a .before)) .return) q ∙ ap epochTaken is
+
+  -- the corollary
   pub new-epochs-field : (cs : List RealCall) (a : CallIn size mode ttl s lent cs) → a .call ≡ real.newEpoch
       → returned size mode ttl s lent a ≡ epochTaken (wrap (1 + epochsIn (a .before)))
   new-epochs-field cs a q =

@@ -19,8 +19,9 @@ use Rattle.arena.specs.Sequence.{lend}
 use Rattle.plan.specs.Decode.{decodePlan}
 use Rattle.resolving.specs.Pushes.{pushed}
 use Rattle.single_calls.specs.AsCall.{callOf}
-use Rattle.demand.specs.Call.{RealCall, planning, resolving, push, lookup, store, invalidate, newEpoch, withArena, withNext, bookCall}
-use Rattle.demand.specs.Words.{LentArena}
+use Rattle.demand.specs.Call.{RealCall, planning, resolving, push, lookup, store, invalidate, newEpoch, withArena, bookCall}
+use Rattle.demand.specs.Replies.{withNext}
+use Rattle.demand.specs.CorollaryWords.{LentArena}
 use Rattle.demand.specs.BookCalls.{of-single, of-pushed, of-push, of-planning, of-resolving, of-fine}
 
 -- ---- the next number

@@ -21,7 +21,7 @@ use Rattle.resp3.specs.Ends.{isValue}
 use Rattle.resp3.specs.Law.{value-law}
 use Rattle.book.specs.Book as book
 use Rattle.book.specs.Book.{Setup, Row, Item, Entry, Keyed, plus, fresh, on}
-use Rattle.book.specs.Calls.{Call, single, replyTo, afterCalls}
+use Rattle.book.specs.Calls.{Call, single, afterCalls}
 use Rattle.book.specs.Each.{Each}
 use Rattle.book.specs.Counts.{Counted}
 use Rattle.book.specs.Storable.{StorableEntries}
@@ -40,14 +40,25 @@ use Rattle.push.specs.Push as pushes
 use Rattle.cache_manager.specs.Pipeline as plannings
 use Rattle.caching_cmd.specs.Call as resolvings
 use Rattle.demand.specs.Call.{RealCall, planning, resolving, push, lookup, store, invalidate, newEpoch, Given, Stepped, causeOf, setupBy, step}
-use Rattle.demand.specs.Call.{setupWith, bookCall, bookCalls, Response, respond}
-use Rattle.demand.specs.Words.{modeIn, LentArena}
+use Rattle.demand.specs.Call.{setupWith, bookCall, bookCalls}
 use Rattle.demand.specs.Demand.{LeftBy, CauseNine}
+use Rattle.demand.specs.Replies.{Response, respond}
+use Rattle.demand.specs.CorollaryWords.{modeIn, LentArena}
 use Rattle.demand.specs.Bridge.{is-fine, is-sized}
 use Rattle.demand.specs.ModeRefused.{step-refused, number-refused}
 use Rattle.demand.specs.OneCall.{return-is}
 use Rattle.demand.specs.InTurn.{image-field, rows-field}
 use Rattle.demand.specs.Refusals.{never-nine, other-mode}
+
+-- every call but a new epoch is lent the arena
+lent-arena : (c : RealCall) → c ≢ newEpoch → LentArena c
+lent-arena (planning m d t e bytes plan send) other = tt
+lent-arena (resolving m d t e plan replies answer) other = tt
+lent-arena (push m d bytes) other = tt
+lent-arena (lookup m d t e k c) other = tt
+lent-arena (store m d e k c v x) other = tt
+lent-arena (invalidate m d k) other = tt
+lent-arena newEpoch other = other refl
 
 -- ---- the number 9 is given exactly where the arena is no image
 
@@ -228,8 +239,11 @@ module _ (size : ℕ) (s : Bytes) where
 -- ---- the theorem
 
 pub nine : CauseNine
-nine size c h a b ne = (λ e l. by-decode e l (decode isValue (p size h) (h .arena)) refl, λ f. to-nine f (decode isValue (p size h) (h .arena)) refl)
+nine size c h other b ne = (λ e l. by-decode e l (decode isValue (p size h) (h .arena)) refl, λ f. to-nine f (decode isValue (p size h) (h .arena)) refl)
   where
+    a : LentArena c
+    a = lent-arena c other
+
     pass : refused size (modeIn c) (length (h .arena)) ≡ false
     pass = passes size h c a ne
 

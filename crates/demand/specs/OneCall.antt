@@ -8,14 +8,15 @@ use Rattle.buffer.specs.Same.{Bytes}
 use Rattle.config.specs.Config.{refused}
 use Rattle.resp3.specs.Ends.{isValue}
 use Rattle.book.specs.Book.{Setup, Book}
-use Rattle.book.specs.Calls.{afterCall, replyTo}
+use Rattle.book.specs.Calls.{afterCall}
 use Rattle.book.specs.Counts.{Counted}
 use Rattle.arena.specs.Tests.{WellFormed}
 use Rattle.arena.specs.Image.{Sized}
 use Rattle.arena.specs.Sequence.{Held, lend}
-use Rattle.demand.specs.Call.{RealCall, planning, resolving, push, lookup, store, invalidate, newEpoch, Return, Stepped, withArena, withNext}
-use Rattle.demand.specs.Call.{step, setupWith, bookCall, respond, returnFor}
-use Rattle.demand.specs.Words.{modeIn, LentArena}
+use Rattle.demand.specs.Call.{RealCall, planning, resolving, push, lookup, store, invalidate, newEpoch, Return, Stepped, withArena, step, setupWith}
+use Rattle.demand.specs.Call.{bookCall}
+use Rattle.demand.specs.Replies.{withNext, respond, returnFor}
+use Rattle.demand.specs.CorollaryWords.{modeIn, LentArena}
 use Rattle.demand.specs.Bridge.{lookup-step, invalidate-step, store-step, epoch-step}
 use Rattle.demand.specs.PushBridge.{push-step}
 use Rattle.demand.specs.PlanBridge.{planning-step}

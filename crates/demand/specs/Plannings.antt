@@ -42,8 +42,10 @@ use Rattle.cache_manager.specs.Pipeline.{wrote}
 use Rattle.cache_manager.specs.Call as told
 use Rattle.cache_manager.specs.Call.{judgedCall}
 use Rattle.caching.specs.Planned.{planReturn}
-use Rattle.demand.specs.Call.{Return, planned, Reply, causeOf, planReply, recordReply, planningReturn}
-use Rattle.demand.specs.Words.{placesIn, placesOf, planBytes, gotsOf}
+use Rattle.demand.specs.Call.{Return, planned, causeOf}
+use Rattle.demand.specs.Words.{placesIn, placesOf, gotsOf}
+use Rattle.demand.specs.Replies.{Reply, planReply, recordReply, planningReturn}
+use Rattle.demand.specs.CorollaryWords.{planBytes}
 
 module _ (g : Settings) (t e : ℕ) (bytes d f : Bytes) (p : Setup) (bk : Book) where
   -- what is written for these answers, and what is returned then

@@ -1,7 +1,8 @@
--- The clause `reported`: a resolving reports as many stores as the space rule refuses, and no other call reports any. Assumes that setup was not refused,
--- and that the call's return is the book's reply's (`answers`).
-use mathlib.Core.Path.{_≡_, refl, ap, _∙_}
+-- The clause `reported`, and its corollary: a resolving reports as many stores as the space rule refuses, and no other call reports any. Assumes
+-- that setup was not refused, and that the call's return is the book's reply's (`answers`).
+use mathlib.Core.Path.{_≡_, refl, sym, ap, _∙_}
 use Prim.Native.Nat.{ℕ}
+use native.Mathlib.Omega.{arith}
 use mathlib.Core.Bool.{Bool}
 use mathlib.Core.Option.{Option, none, some}
 use mathlib.Core.List.{List, [], _∷_, _++_}
@@ -32,17 +33,21 @@ use Rattle.plan.specs.Decode.{decodePlan}
 use Rattle.resolving_walk.specs.Commands.{planRead}
 use Rattle.resolving.specs.Resolve.{Resolved, cause7, answered, resolve}
 use Rattle.resolving.specs.Result.{resultBytes}
+use Rattle.arena.specs.Sequence.{Held}
 use Rattle.call_entry.specs.Entered.{noCause}
+use Rattle.caching.specs.declared.resolve_call.RedisCacheResolve.{RedisCacheResolve}
 use Rattle.single_calls.specs.AsCall as singles
 use Rattle.caching_cmd.specs.Call.{fits, toldTo, refusedOf}
 use Rattle.caching_cmd.specs.Told.{toldBy}
 use Rattle.demand.specs.Call as real
-use Rattle.demand.specs.Call.{RealCall, Reply, setupBy, ifFine, bookCall, bookCalls, respond, returnFor, planReply, recordReply}
-use Rattle.demand.specs.Call.{planningReturn, resultReply, resolvedReply, planLent, resolvingReturn}
-use Rattle.demand.specs.Words.{reportedBy, lackingIn}
-use Rattle.demand.specs.Demand.{setup, told, CallIn, returned, bookBefore, response}
+use Rattle.demand.specs.Call.{RealCall, setupBy, step, ifFine, bookCall, bookCalls}
+use Rattle.demand.specs.Demand.{setup, told, heldBy, CallIn, returned, bookBefore}
+use Rattle.demand.specs.Replies.{Reply, respond, returnFor, planReply, recordReply, planningReturn, resultReply, resolvedReply, planLent}
+use Rattle.demand.specs.Replies.{resolvingReturn}
+use Rattle.demand.specs.CorollaryWords.{reportedBy, lackingIn}
+use Rattle.demand.specs.Corollaries.{response}
 use Rattle.demand.specs.Laws.{setup-proper}
-use Rattle.demand.specs.BookCalls.{of-single, of-push, of-planning, of-fine}
+use Rattle.demand.specs.BookCalls.{of-single, of-push, of-planning, of-resolving, of-fine}
 
 module _ (size n : ℕ) (p : Setup) (o : Proper p) (lent : Counts) (before : List Call) where
   -- the book before the call
@@ -142,7 +147,39 @@ module _ (size n : ℕ) (p : Setup) (o : Proper p) (lent : Counts) (before : Lis
   reported-for (real.invalidate m d k) = unfold reportedBy in single-lacks (book.invalidate k) (checked size m d n)
   reported-for real.newEpoch = unfold reportedBy lackingIn in refl
 
--- the clause
+  -- ---- as the book's own replies have it
+
+  -- of a resolving, which is the only call that returns so
+  abbrev Refuses : Call → Type 0
+  Refuses c = lackingIn p c bk ≡ refusedOf (replyTo p c bk)
+
+  none-refused : Refuses calls.refused
+  unfolding lackingIn refusedOf calls.call-defs
+  none-refused = refl
+
+  stopped-refuses : (e : ℕ) (ss : List Storing) → Refuses (calls.resolving7 e ss)
+  unfolding lackingIn refusedOf calls.call-defs
+  stopped-refuses e ss = refl
+
+  told-refuses : (m d t e : ℕ) (plan replies answer : Bytes) → Refuses (bookCall size n (real.resolving m d t e plan replies answer))
+  unfolding bookCall
+  told-refuses m d t e plan replies answer =
+      of-fine Refuses (checked size m d n) _ none-refused
+      (λ g.
+      of-resolving Refuses (g .mode) replies t e (length answer) none-refused (λ ss. sym (stores-lack e ss)) (stopped-refuses e) (decodePlan plan))
+
+  pub resolved-refuses : (c : RealCall) (h : Held) (r : RedisCacheResolve) (buffer : Bytes) → step size c h .return ≡ real.resolved r buffer
+      → Refuses (bookCall size n c)
+  unfolding step
+  resolved-refuses (real.planning m d t e bytes plan send) h r buffer q = absurd (let z : _≡_ {A = ℕ} 0 1 = cc in omega arith)
+  resolved-refuses (real.resolving m d t e plan replies answer) h r buffer q = told-refuses m d t e plan replies answer
+  resolved-refuses (real.push m d bytes) h r buffer q = absurd (let z : _≡_ {A = ℕ} 0 1 = cc in omega arith)
+  resolved-refuses (real.lookup m d t e k c) h r buffer q = absurd (let z : _≡_ {A = ℕ} 0 1 = cc in omega arith)
+  resolved-refuses (real.store m d e k c v x) h r buffer q = absurd (let z : _≡_ {A = ℕ} 0 1 = cc in omega arith)
+  resolved-refuses (real.invalidate m d k) h r buffer q = absurd (let z : _≡_ {A = ℕ} 0 1 = cc in omega arith)
+  resolved-refuses real.newEpoch h r buffer q = absurd (let z : _≡_ {A = ℕ} 0 1 = cc in omega arith)
+
+-- the corollary, and the clause
 module _ (size mode ttl : ℕ) (s : Bytes) (lent : Counts) (set-up : setupBy size mode ttl s .cause ≡ noCause) (cs : List RealCall)
     (a : CallIn size mode ttl s lent cs)
     (is : returned size mode ttl s lent a ≡ returnFor size (length s) (a .call) (response size mode ttl s lent a)) where
@@ -152,3 +189,11 @@ module _ (size mode ttl : ℕ) (s : Bytes) (lent : Counts) (set-up : setupBy siz
       ap reportedBy is
       ∙ reported-for size (length s) (setup size mode ttl s lent) (setup-proper size mode ttl s lent set-up) lent
       (bookCalls size (length s) (a .before)) (a .call)
+
+  pub refused-field : (r : RedisCacheResolve) (buffer : Bytes) → returned size mode ttl s lent a ≡ real.resolved r buffer
+      → r .refused ≡ refusedOf (replyTo (setup size mode ttl s lent) (told size mode ttl s lent (a .call)) (bookBefore size mode ttl s lent a))
+  unfolding reportedBy
+  refused-field r buffer q =
+      sym (ap reportedBy q) ∙ reported-field
+      ∙ resolved-refuses size (length s) (setup size mode ttl s lent) (setup-proper size mode ttl s lent set-up) lent
+      (bookCalls size (length s) (a .before)) (a .call) (heldBy size mode ttl s lent (a .before)) r buffer q

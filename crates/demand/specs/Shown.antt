@@ -15,7 +15,8 @@ use Rattle.book.specs.Residence.{itemOf}
 use Rattle.book.specs.Tally.{hitsIn, missesIn, tally, tallyReply}
 use Rattle.book.specs.Lookups.{served as servedAnswer, answerFrom, lookup-answer}
 use Rattle.demand.specs.Call.{Return}
-use Rattle.demand.specs.Words.{Got, got, missed, gotsOf, served, unserved, lookupsIn}
+use Rattle.demand.specs.Words.{Got, got, missed, gotsOf, lookupsIn}
+use Rattle.demand.specs.CorollaryWords.{served, unserved}
 use Rattle.demand.specs.Places.{gotBy}
 use Rattle.demand.specs.Shows.{Shows, asked, unasked}
 

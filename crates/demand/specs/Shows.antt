@@ -36,10 +36,11 @@ use Rattle.single_calls.specs.Place.{servedAt}
 use Rattle.cache_manager.specs.Call as told
 use Rattle.caching.specs.Exported.{flagOf, bytesOf}
 use Rattle.demand.specs.Call as real
-use Rattle.demand.specs.Call.{RealCall, Return, Reply, causeOf, ifFine, bookCall, respond, returnFor, planningReturn, resultReply}
-use Rattle.demand.specs.Call.{resolvedReply, planLent, resolvingReturn, singleNumber, singleValue}
+use Rattle.demand.specs.Call.{RealCall, Return, causeOf, ifFine, bookCall}
 use Rattle.demand.specs.Words.{gotsOf, lookupsIn}
-use Rattle.demand.specs.Demand.{number, response}
+use Rattle.demand.specs.Demand.{number}
+use Rattle.demand.specs.Replies.{Reply, respond, returnFor, planningReturn, resultReply, resolvedReply, planLent, resolvingReturn, singleNumber}
+use Rattle.demand.specs.Replies.{singleValue}
 use Rattle.demand.specs.BookCalls.{of-single, of-push, of-resolving, of-fine}
 use Rattle.demand.specs.Places.{gotBy, plan-places, dry-places, dry-count}
 use Rattle.demand.specs.Plannings.{ws, said, Passing, passing, gots-places}

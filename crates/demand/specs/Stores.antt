@@ -33,9 +33,10 @@ use Rattle.call_entry.specs.Entered.{noCause}
 use Rattle.single_calls.specs.AsCall.{callOf, outcomeNumber, outcomeValue}
 use Rattle.caching.specs.Exported.{flagOf, bytesOf}
 use Rattle.demand.specs.Call as real
-use Rattle.demand.specs.Call.{RealCall, Given, lookedUp, stored, Stepped, causeOf, setupBy, step, bookCall, respond, returnFor, singleNumber, singleValue}
+use Rattle.demand.specs.Call.{RealCall, Given, lookedUp, stored, Stepped, causeOf, setupBy, step, bookCall}
 use Rattle.demand.specs.Words.{got, gotsOf, storeNumber}
 use Rattle.demand.specs.Demand.{answer, setup, bookBy, CallIn, returned, bookBefore}
+use Rattle.demand.specs.Replies.{respond, returnFor, singleNumber, singleValue}
 use Rattle.demand.specs.Bridge.{is-fine}
 use Rattle.demand.specs.ModeRefused.{mode-bad, is-bad}
 use Rattle.demand.specs.Laws.{sound-field}

@@ -38,13 +38,14 @@ use Rattle.call_entry.specs.Entered.{noCause}
 use Rattle.single_calls.specs.AsCall.{outcomeNumber}
 use Rattle.cache_manager.specs.Pipeline as pipeline
 use Rattle.demand.specs.Call as real
-use Rattle.demand.specs.Call.{RealCall, Given, Return, Reply, Stepped, causeOf, setupBy, afterSetup, step, heldAfter, returns, setupWith}
-use Rattle.demand.specs.Call.{bookCall, respond, returnFor, planReply, recordReply, planningReturn, singleNumber, pushNumber}
-use Rattle.demand.specs.Words.{Got, gotsOf, served, unserved, total}
+use Rattle.demand.specs.Call.{RealCall, Given, Return, Stepped, causeOf, setupBy, afterSetup, step, heldAfter, returns, setupWith, bookCall}
+use Rattle.demand.specs.Words.{Got, gotsOf}
 use Rattle.demand.specs.Demand.{heldBy, answersTo, bookBy}
+use Rattle.demand.specs.Replies.{Reply, respond, returnFor, planReply, recordReply, planningReturn, singleNumber, pushNumber}
+use Rattle.demand.specs.CorollaryWords.{served, unserved, total}
 use Rattle.demand.specs.Sequences.{given-front}
 use Rattle.demand.specs.OneCall.{booked}
-use Rattle.demand.specs.InTurn.{rows-formed, counts-formed, next-step, held-is}
+use Rattle.demand.specs.InTurn.{AllHeld, rows-formed, counts-formed, next-step}
 use Rattle.demand.specs.LeavesAll.{call-left}
 use Rattle.demand.specs.Shows.{shows}
 use Rattle.demand.specs.Shown.{Agree, served-agree, unserved-agree, shown-tally}
@@ -169,14 +170,15 @@ module _ (f : Counts → ℕ) (count : List Got → ℕ) (g : Answer → ℕ) (g
 
   -- ---- a sequence
 
-  module _ (size mode ttl : ℕ) (s : Bytes) (lent : Counts) (set-up : setupBy size mode ttl s .cause ≡ noCause) (counted : Counted lent) where
+  module _ (size mode ttl : ℕ) (s : Bytes) (lent : Counts) (set-up : setupBy size mode ttl s .cause ≡ noCause) (counted : Counted lent)
+      (held : AllHeld size mode ttl s lent) where
     abbrev start : Held
     start = afterSetup size mode ttl s lent
 
     -- so does every call after some
     after-adds : (before : List RealCall) → All Given before → (c : RealCall) → Adds size (heldBy size mode ttl s lent before) c
     after-adds before given c =
-        subst (λ (h : Held). Adds size h c) (sym (held-is size mode ttl s lent set-up counted before given))
+        subst (λ (h : Held). Adds size h c) (sym (held before given))
         (step-adds size (length s) (bookBy size mode ttl s lent before) (rows-formed size mode ttl s lent set-up counted before given)
         (counts-formed size mode ttl s lent set-up counted before) (next-step size mode ttl s lent set-up counted before given) c)
 
@@ -219,9 +221,9 @@ misses-go : Goes (λ c. c .misses) unserved missesIn
 misses-go = record { agree = unserved-agree; below = λ c w. w .misses; tallied = misses-tallied }
 
 module _ (size mode ttl : ℕ) (s : Bytes) (lent : Counts) (set-up : setupBy size mode ttl s .cause ≡ noCause) (counted : Counted lent)
-    (cs : List RealCall) (given : All Given cs) where
+    (held : AllHeld size mode ttl s lent) (cs : List RealCall) (given : All Given cs) where
   pub hits-field : heldBy size mode ttl s lent cs .counts .hits ≡ wrap (lent .hits + total served (answersTo size mode ttl s lent cs))
-  hits-field = totalled (λ c. c .hits) served hitsIn hits-go size mode ttl s lent set-up counted cs given
+  hits-field = totalled (λ c. c .hits) served hitsIn hits-go size mode ttl s lent set-up counted held cs given
 
   pub misses-field : heldBy size mode ttl s lent cs .counts .misses ≡ wrap (lent .misses + total unserved (answersTo size mode ttl s lent cs))
-  misses-field = totalled (λ c. c .misses) unserved missesIn misses-go size mode ttl s lent set-up counted cs given
+  misses-field = totalled (λ c. c .misses) unserved missesIn misses-go size mode ttl s lent set-up counted held cs given

@@ -1,6 +1,6 @@
 -- Demand 3 over the exported functions, proved: the record of Demand.antt put together from its clauses; and cause 9 beside it. Assumes
 -- nothing but what the theorems' types say.
-use mathlib.Core.Path.{_≡_}
+use mathlib.Core.Path.{_≡_, ap}
 use Prim.Native.Nat.{ℕ}
 use mathlib.Core.List.{List}
 use lib.ListN.{length}
@@ -10,21 +10,19 @@ use Rattle.resp3.specs.Ends.{isValue}
 use Rattle.book.specs.Book.{Counts}
 use Rattle.book.specs.Counts.{Counted}
 use Rattle.arena.specs.Tests.{WellFormed}
+use Rattle.arena.specs.Sequence.{Held}
 use Rattle.call_entry.specs.Entered.{noCause}
-use Rattle.demand.specs.Call.{RealCall, Given, setupBy, returnFor}
-use Rattle.demand.specs.Demand.{setup, CallIn, returned, response, bookBefore, Demand, DemandThree, CauseNine}
-use Rattle.demand.specs.Laws.{in-turn-field, happened-field, sound-field, ends-field}
-use Rattle.demand.specs.InTurn.{rows-formed, before-given, answers-field, image-field, rows-field, counts-field, next-field}
-use Rattle.demand.specs.Refusals.{never-nine-field, only-mode-field}
-use Rattle.demand.specs.LeavesAll.{leaves-all-field}
+use Rattle.demand.specs.Call.{RealCall, Given, setupBy, step}
+use Rattle.demand.specs.Demand.{setup, CallIn, returned, bookBefore, Demand, DemandThree, CauseNine}
+use Rattle.demand.specs.Replies.{returnFor}
+use Rattle.demand.specs.Corollaries.{response}
+use Rattle.demand.specs.Laws.{in-turn-field, happened-field}
+use Rattle.demand.specs.InTurn.{rows-formed, before-given, held-is, answers-field, rows-field, next-field}
+use Rattle.demand.specs.Refusals.{never-nine-field}
 use Rattle.demand.specs.Gets.{isServed-field, isMissed-field, places-field}
-use Rattle.demand.specs.PlansAre.{plansAre-field}
-use Rattle.demand.specs.Stops.{seven-field}
-use Rattle.demand.specs.Reports.{reported-field}
+use Rattle.demand.specs.Reports.{refused-field}
 use Rattle.demand.specs.Stores.{single-stores-field, kept-at-once-field}
-use Rattle.demand.specs.Epochs.{new-epochs-field}
-use Rattle.demand.specs.Tally.{hits-field, misses-field}
-use Rattle.demand.specs.Dropped.{invalidates-field}
+use Rattle.demand.specs.Epochs.{next-taken}
 use Rattle.demand.specs.Swap.{exchanged-field}
 use Rattle.demand.specs.Nine.{nine}
 
@@ -44,27 +42,20 @@ module _ (size mode ttl : ℕ) (s : Bytes) (lent : Counts) (set-up : setupBy siz
         isServed = λ l. isServed-field size mode ttl s lent set-up l (rows-before (l .call)) (is-reply (l .call));
         isMissed = λ l. isMissed-field size mode ttl s lent set-up l (rows-before (l .call)) (is-reply (l .call));
         places = λ a. places-field size mode ttl s lent a (rows-before a) (is-reply a);
-        residenceEnds = ends-field size mode ttl s lent set-up;
         keptAtOnce = kept-at-once-field size mode ttl s lent set-up counted cs given;
         singleStores = single-stores-field size mode ttl s lent set-up counted cs given;
-        newEpochs = new-epochs-field size mode ttl s lent set-up cs;
-        reported = λ a. reported-field size mode ttl s lent set-up cs a (is-reply a);
-        answers = is-reply;
+        newEpochs = λ a.
+            next-taken size mode ttl s lent set-up cs a
+            (next-field size mode ttl s lent set-up counted (a .before) (before-given size mode ttl s lent set-up counted cs given a));
+        reported = λ a. refused-field size mode ttl s lent set-up cs a (is-reply a);
+        answers = λ a.
+            ap (λ (h : Held). step size (a .call) h .return)
+            (held-is size mode ttl s lent set-up counted (a .before) (before-given size mode ttl s lent set-up counted cs given a));
         inTurn = in-turn-field size mode ttl s lent set-up cs;
-        onlyMode = only-mode-field size mode ttl s lent set-up counted cs given;
-        neverNine = never-nine-field size mode ttl s lent set-up counted cs given;
-        leavesAll = leaves-all-field size mode ttl s lent set-up counted cs given;
-        seven = λ a. seven-field size mode ttl s lent cs a (is-reply a);
-        plansAre = λ a. plansAre-field size mode ttl s lent a (rows-before a) (is-reply a);
-        image = image-field size mode ttl s lent set-up counted cs given;
+        neverNine = λ a. never-nine-field size mode ttl s lent a (is-reply a);
+        held = held-is size mode ttl s lent set-up counted cs given;
         rows = rows-field size mode ttl s lent set-up counted cs given;
-        counts = counts-field size mode ttl s lent set-up counted cs given;
-        next = next-field size mode ttl s lent set-up counted cs given;
         happened = happened-field size mode ttl s lent set-up cs;
-        sound = sound-field size mode ttl s lent set-up cs;
-        hits = hits-field size mode ttl s lent set-up counted cs given;
-        misses = misses-field size mode ttl s lent set-up counted cs given;
-        invalidates = invalidates-field size mode ttl s lent set-up counted cs given;
         exchanged = exchanged-field size mode ttl s lent set-up counted cs given;
       }
 

@@ -1,4 +1,12 @@
+pub mod Rows
+pub mod Written
+pub mod Nodes
+pub mod Outcomes
 pub mod Meaning
+pub mod Elements
+pub mod NodeLaws
+pub mod WrittenLaws
+pub mod OutcomeLaws
 pub mod Readings
 pub mod Theorems
 pub mod Only

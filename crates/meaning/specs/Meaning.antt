@@ -3,27 +3,37 @@
 -- Theorems.antt say that what they compute is a case here, so that who believes this page need not read them. Each case's condition excludes the
 -- others' (Only.antt), so that each answer is given exactly where its condition holds. Assumes nothing: these are definitions, and the theorems' types.
 -- Setup, new epoch and the counts have no case here: their contracts compute nothing that has to be told by meaning.
--- Letters: g settings, h what the caller holds, s the arena's bytes, p the book's setup, r a record, v a value.
+-- Letters: g settings, h what the caller holds, s the arena's bytes, p the book's setup, r a record, v a value; in `Readings` s is any bytes, and p a plan
+-- where its type is one.
 -- replaced: caching.Planned.planBy caching.Resolved.resolveBy caching.Pushed.pushBy caching.Exported.lookupBy caching.Exported.storeBy
 -- caching.Exported.invalidateBy caching.Place.placeBy served.Served.servedCall served.Served.servedBuffer resp3_prefix.Begun.firstValue
 -- call_record.Check.checkDef cursor.At.recordAt resp3.Ends.isValue resp3.Decode.decode plan.Decode.decodePlan arena.Decode.decode
+-- planning.Rules.ordered resolving_walk.Commands.planRead resp3.Value.Means resp3.Value.encode resp3.Value.encs resp3_prefix.Meaning.Within
+-- resp3_element.Meaning.arrayOf resp3_element.Meaning.integerOf resp3_element.Meaning.isError resolving.Pushes.pushed resolving.Pushes.keysOf
+-- resolving.Convert.repliesOf single_calls.Single.numberOf single_calls.Single.servedBy
+-- cache_manager.Pipeline.recorded caching_cmd.Call.resolvedOn caching_cmd.Call.refusedAs book.Calls.isRefused book.Calls.remaining buffer.Same.same
 use mathlib.Core.Path.{_≡_}
 use mathlib.Core.Logic.{_↔_}
-use mathlib.Core.Bool.{true, false}
-use mathlib.Core.List.{[]}
+use mathlib.Core.Bool.{Bool, true, false}
+use mathlib.Core.List.{List, [], _∷_}
 use mathlib.Core.Option.{none, some}
-use Prim.Native.Nat.{ℕ, _^_, _≤_, _<_}
+use Prim.Native.Nat.{ℕ, _≤_, _<_}
 use lib.ListN.{length}
-use Rattle.buffer.specs.Same.{Bytes}
-use Rattle.config.specs.Limits.{maxKey, maxCommandKey, maxBytes}
-use Rattle.config.specs.Causes.{badConfig, tooLong, badReply, badArena, badPlan}
+use lib.IntN.{ℤ}
+use Rattle.buffer.specs.Same.{Bytes, same}
+use Rattle.buffer.specs.Ascii.{ascii}
+use Rattle.config.specs.Limits.{maxBytes, maxDepth}
+use Rattle.config.specs.Causes.{badConfig, tooLong, badReply, badArena, badPlan, noSpace}
 use Rattle.config.specs.Config.{refused, settingsOf}
 use Rattle.config.specs.declared.Settings.{Settings}
 use Rattle.format.specs.Runs.{All}
-use Rattle.resp3.specs.Value.{Value, Means, IsValue}
+use Rattle.resp3.specs.Value.{Value, Values, blobString, simpleError, number, null, blobError, array, push, none as noValues, more, Means, IsValue}
+use Rattle.resp3.specs.Value.{encode as valueBytes, encs}
+use Rattle.resp3_element.specs.declared.Integer.the-variants.{Is}
+use Rattle.resp3_element.specs.Meaning.{isError, integerOf, arrayOf}
 use Rattle.resp3.specs.Ends.{isValue}
 use Rattle.resp3.specs.Decode as resp
-use Rattle.resp3_prefix.specs.Meaning.{Complete, Begins, NoneComplete, NoneBegins}
+use Rattle.resp3_prefix.specs.Meaning.{Within, Complete, Begins, NoneComplete, NoneBegins}
 use Rattle.resp3_prefix.specs.Begun.{firstValue}
 use Rattle.resp3_prefix.specs.declared.Begun.{Begun}
 use Rattle.resp3_prefix.specs.declared.Begun.the-variants.{Ends, Lacks, Never}
@@ -32,22 +42,25 @@ use Rattle.call_record.specs.Offset.{IsRecord, FirstAllowed}
 use Rattle.call_record.specs.Check.{checkDef}
 use Rattle.call_record.specs.declared.Checked.the-variants.{Fine, Wrong}
 use Rattle.cursor.specs.At.{recordAt}
-use Rattle.book.specs.Book.{Setup, Entry, Item, Row, Counts, Keyed, lookup, store, invalidate}
-use Rattle.book.specs.Calls.{single, afterCall}
-use Rattle.book.specs.Sound.{Sound}
-use Rattle.arena.specs.Layout.{encode}
+use Rattle.book.specs.Book.{Setup, Row, Counts, Answer, hit, noSpace as spaceless, Keyed, lookup, store, invalidate}
+use Rattle.book.specs.Calls as pushes
+use Rattle.book.specs.Calls.{Storing, Call, resolving7, single, stores, ons, isRefused, remaining, afterCall}
 use Rattle.arena.specs.Decode.{decode}
 use Rattle.arena.specs.Place.{arenaPlace}
 use Rattle.arena.specs.Sequence.{Held, bookOf}
 use Rattle.sharded_lru.specs.Lent.{setupNow}
-use Rattle.planning.specs.Plan.{Plan, encPlan}
-use Rattle.planning.specs.Rules.{GoodPlan, IsPlan}
+use Rattle.planning.specs.Plan.{Node, Plan, encPlan}
+use Rattle.planning.specs.Rules.{GoodNode, ordered, GoodPlan, IsPlan}
 use Rattle.plan.specs.Decode.{decodePlan}
 use Rattle.resolving_walk.specs.Commands.{planRead}
-use Rattle.resolving.specs.Resolve.{resolve}
-use Rattle.single_calls.specs.Single.{Return, refusedAs, overlong, calledOn}
+use Rattle.resolving.specs.Plan as plans
+use Rattle.resolving.specs.Plan.{Command}
+use Rattle.resolving.specs.Convert.{repliesOf}
+use Rattle.resolving.specs.Pushes.{keysOf, pushed}
+use Rattle.resolving.specs.Resolve.{Resolved, resolve}
+use Rattle.single_calls.specs.Single.{Return, numberOf, servedBy, refusedAs, overlong, calledOn}
 use Rattle.single_calls.specs.Place.{servedAt}
-use Rattle.call_entry.specs.Entered.{holding}
+use Rattle.call_entry.specs.Entered.{noCause, holding}
 use Rattle.push.specs.Push.{pushedOn}
 use Rattle.cache_manager.specs.Pipeline as plannings
 use Rattle.cache_manager.specs.Pipeline.{Left, refusal, recorded}
@@ -61,27 +74,10 @@ use Rattle.caching.specs.Place.{placeBy}
 use Rattle.caching.specs.Planned.{planBy}
 use Rattle.caching.specs.Resolved.{resolveBy}
 use Rattle.caching.specs.Pushed.{pushBy}
-
--- ---- an arena
-
--- what a call may store: a key of at most 65,535 bytes, a command key of at most 16 MiB, exactly one value
-pub record MayStore (k c v : Bytes) : Type 0 where
-  pub key : length k ≤ maxKey
-  pub command : length c ≤ maxCommandKey
-  pub value : IsValue v
-
--- an item that calls can make: numbers of 64 bits, and entries that may be stored
-pub record Storable (it : Item) : Type 0 where
-  pub epoch : it .epoch < 2 ^ 64
-  pub expiry : it .expiry < 2 ^ 64
-  pub entries : All (λ (en : Entry). MayStore (it .key) (en .command) (en .value)) (it .entries)
-
--- an arena's bytes are those of these rows, each of which its shard can hold; beyond the shards there is nothing
-pub record Image (p : Setup) (s : Bytes) (rows : ℕ → Row) : Type 0 where
-  pub sound : (i : ℕ) → Sound p i (rows i)
-  pub storable : (i : ℕ) → All Storable (rows i)
-  pub beyond : (i : ℕ) → p .shards ≤ i → rows i ≡ []
-  pub bytes : encode p (length s) rows ≡ s
+use Rattle.meaning.specs.Rows.{Image}
+use Rattle.meaning.specs.Written.{Row as InRow, Written}
+use Rattle.meaning.specs.Nodes.{NodesOf}
+use Rattle.meaning.specs.Outcomes.{planningOn, resolvingOn, Refuses}
 
 -- ---- causes 1 and 9, with which every call on an arena begins
 
@@ -224,7 +220,11 @@ ServedMeans = (plan buffer : Bytes) → Serves plan buffer (servedCall plan (len
 abbrev pub ValueEndMeans : Type 0
 ValueEndMeans = (received : Bytes) → EndsSo received (firstValue received)
 
--- ---- what the readers read, for demand 3, whose statement names them
+-- ---- what is read, tested and asked: what the cases above name, and demand 3's statement
+
+-- a push of `invalidate` and a value, whatever follows
+abbrev pub invalidation : Value → Values → Value
+invalidation v vs = push (more (blobString (ascii "invalidate")) (more v vs))
 
 pub record Readings : Type 0 where
   -- the record's check, its offset, and the record that is read
@@ -237,6 +237,44 @@ pub record Readings : Type 0 where
   -- the plan that is read, and that there is none
   pub plan-of : (s : Bytes) (p : Plan) → (decodePlan s ≡ some p) ↔ (GoodPlan p × (s ≡ encPlan p))
   pub no-plan : (s : Bytes) → (decodePlan s ≡ none) ↔ (IsPlan s → ⊥)
+  -- good nodes in order are so many commands', and the plan that resolving is given has these
+  pub order : (k : ℕ) (ns : List Node) → All GoodNode ns → (ordered k ns ≡ true) ↔ ((cs : List Command) × (length cs ≡ k) × NodesOf cs ns)
+  pub commands-of : (p : Plan) (r : plans.Plan) → GoodPlan p
+      → (planRead p ≡ r) ↔ ((r .transaction ≡ p .transaction) × (length (r .commands) ≡ p .commands) × NodesOf (r .commands) (p .nodes))
+  -- bytes that are a value, a value's bytes, those of values in a row, and a value within the limits
+  pub means : (s : Bytes) (v : Value) → Means s v ↔ Written maxDepth v [] s
+  pub encoded : (d : ℕ) (v : Value) (s : Bytes) → Written d v [] s → valueBytes v ≡ s
+  pub encoded-row : (d : ℕ) (vs : Values) (r s : Bytes) → InRow (Written d) vs r s → encs vs r ≡ s
+  pub within : (v : Value) → Within v ↔ ((s : Bytes) × (length s ≤ maxBytes) × Written maxDepth v [] s)
+  -- a planning on a record; a resolving that is refused, and one on a plan and a value
+  pub recorded-is : (t e : ℕ) (bytes plan send : Bytes) (h : Held) (g : Settings) (rows : ℕ → Row) (r : Record)
+      → recorded t e bytes plan send h g rows r ≡ planningOn t e plan send h g rows r
+  pub refused-is : (n : ℕ) (buffer : Bytes) (h : Held)
+      → resolvings.refusedAs n buffer h ≡ record { cause = n; written = 0; stores = 0; buffer = buffer; held = h }
+  pub resolved-is : (p : Setup) (rows : ℕ → Row) (transaction : Bool) (e : ℕ) (v : Resolved) (buffer : Bytes) (h : Held)
+      → resolvedOn p rows transaction e v buffer h ≡ resolvingOn p rows transaction e v buffer h
+  -- the book's calls that are refused, and what these leave: the stores before cause 7
+  pub refuses : (c : Call) (said : List Answer) → (isRefused c said ≡ true) ↔ Refuses said c
+  pub stores-left : (e : ℕ) (ss : List Storing) → remaining (resolving7 e ss) ≡ ons (stores e ss)
+  pub none-left : (c : Call) → ((e : ℕ) (ss : List Storing) → c ≡ resolving7 e ss → ⊥) → remaining c ≡ []
+  -- two byte strings are the same
+  pub same-is : (a b : Bytes) → (same a b ≡ true) ↔ (a ≡ b)
+  -- what is asked of a value: the elements of an array, an integer, and whether it is an error; the list of replies, a transaction's inside its own
+  pub array-of : (v : Value) (vs : Values) → (arrayOf v ≡ some vs) ↔ (v ≡ array vs)
+  pub integer-of : (v : Value) (z : ℤ) → (integerOf v ≡ Is z) ↔ (v ≡ number z)
+  pub no-error : (v : Value) → (isError v ≡ false) ↔ ((xs : Bytes) → (v ≡ simpleError xs → ⊥) × (v ≡ blobError xs → ⊥))
+  pub replies-of : (v : Value) (vs : Values) → (repliesOf false v ≡ some vs) ↔ (v ≡ array vs)
+  pub replies-in : (v : Value) (vs : Values) → (repliesOf true v ≡ some vs) ↔ (v ≡ array (more (array vs) noValues))
+  -- a push as a call on the book: one with keys, one that drops everything, any other; the keys are the blobs among the elements
+  pub keys-pushed : (ks vs : Values) → pushed (invalidation (array ks) vs) ≡ pushes.push (keysOf ks)
+  pub all-pushed : (vs : Values) → pushed (invalidation null vs) ≡ pushes.pushAll
+  pub none-pushed : (v : Value) → ((ks vs : Values) → v ≡ invalidation (array ks) vs → ⊥) → ((vs : Values) → v ≡ invalidation null vs → ⊥)
+      → pushed v ≡ pushes.push []
+  pub keys : (vs : Values) (xs : Bytes) → (keysOf noValues ≡ []) × (keysOf (more (blobString xs) vs) ≡ xs ∷ keysOf vs)
+  pub no-key : (v : Value) (vs : Values) → ((xs : Bytes) → v ≡ blobString xs → ⊥) → keysOf (more v vs) ≡ keysOf vs
+  -- what the book answers a single call: the value that a hit serves, and 11 where there is no space, 0 else
+  pub serves : (a : Answer) (v : Bytes) → (servedBy a ≡ some v) ↔ (a ≡ hit v)
+  pub number-of : (a : Answer) → (numberOf spaceless ≡ noSpace) × ((a ≡ spaceless → ⊥) → numberOf a ≡ noCause)
   -- the rows that are read, and that there are none, under settings that cause 1 lets through
   pub rows-of : (size mode ttl : ℕ) (s : Bytes) → refused size mode (length s) ≡ false → (rows : ℕ → Row)
       → (decode isValue (setupNow (settingsOf size mode ttl (length s))) s ≡ some rows) ↔ Image (setupNow (settingsOf size mode ttl (length s))) s rows

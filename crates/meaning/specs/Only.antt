@@ -41,7 +41,8 @@ use Rattle.caching.specs.Resolved.{resolveBy}
 use Rattle.caching.specs.Pushed.{pushBy}
 use Rattle.caching.specs.Exported.{lookupBy}
 use Rattle.caching.specs.Place.{placeBy}
-use Rattle.meaning.specs.Meaning.{Image, Enters, wrongSettings, noImage, onImage, Plans, recordTooLong, noRecord, ofRecord, Resolves, noPlan}
+use Rattle.meaning.specs.Meaning.{Enters, wrongSettings, noImage, onImage, Plans, recordTooLong, noRecord, ofRecord, Resolves, noPlan}
+use Rattle.meaning.specs.Rows.{Image}
 use Rattle.meaning.specs.Meaning.{noReplies, ofPlan, Pushes, noPush, ofValue, Calls, partTooLong, noValue, onBook, Looks, keyTooLong, lookedUp}
 use Rattle.meaning.specs.Meaning.{Serves, noPlanServed, ofPlanServed, EndsSo, isComplete, lacks, never}
 use Rattle.meaning.specs.Readings.{readings}

@@ -1,14 +1,15 @@
--- What the readers read (`Readings` of Meaning.antt), proved: the laws of call_record, cursor, resp3 and plan together, and the arena's with "exactly
--- one value" by meaning in the place of the test. Assumes nothing.
-use mathlib.Core.Path.{_≡_, refl, sym, _∙_}
+-- What is read, tested and asked (`Readings` of Meaning.antt), proved: the laws of call_record, cursor, resp3 and plan together, with those of Elements.antt,
+-- NodeLaws.antt and WrittenLaws.antt, and the arena's with "exactly one value" by meaning in the place of the test. Assumes nothing.
+use mathlib.Core.Path.{_≡_, refl, sym, ap, _∙_}
 use mathlib.Core.Logic.{_↔_}
 use mathlib.Core.Bool.{true, false}
-use mathlib.Core.Option.{Option, none, some, Option·none-ne-some}
+use mathlib.Core.Option.{Option, none, some, Option·none-ne-some, Option·some-injective}
 use mathlib.Core.List.{List, [], _∷_}
 use Prim.Native.Nat.{ℕ}
 use lib.ListN.{length}
 use borrow.Author.Tests.{leb-true, le-leb}
-use Rattle.buffer.specs.Same.{Bytes}
+use Rattle.buffer.specs.Same.{Bytes, same, same-refl, same-eq}
+use Rattle.config.specs.Causes.{noSpace}
 use Rattle.config.specs.Config.{refused, settingsOf, checked}
 use Rattle.config.specs.Laws.{passed}
 use Rattle.config.specs.declared.CheckedConfig.the-variants.{Fine}
@@ -19,7 +20,7 @@ use Rattle.resp3.specs.Law as values
 use Rattle.call_record.specs.Record.{encRecord}
 use Rattle.call_record.specs.Check.{check-fine, check-offset}
 use Rattle.cursor.specs.Laws.{decoded}
-use Rattle.book.specs.Book.{Setup, Entry, Row}
+use Rattle.book.specs.Book.{Setup, Entry, Row, Answer, hit, miss, stored, noSpace as spaceless, invalidated, number}
 use Rattle.book.specs.Each.{Each}
 use Rattle.book.specs.Storable.{StorableEntries, StorableItem}
 use Rattle.arena.specs.Decode.{mayStore, decode}
@@ -28,8 +29,16 @@ use Rattle.arena.specs.Image as images
 use Rattle.arena.specs.Image.{Sized}
 use Rattle.arena.specs.Sizes.{sized}
 use Rattle.sharded_lru.specs.Lent.{setupNow}
+use Rattle.call_entry.specs.Entered.{noCause}
+use Rattle.single_calls.specs.Single.{numberOf, servedBy}
 use Rattle.plan.specs.Law as plans
-use Rattle.meaning.specs.Meaning.{MayStore, Storable, Image, Readings}
+use Rattle.meaning.specs.Meaning.{Readings}
+use Rattle.meaning.specs.Rows.{MayStore, Storable, Image}
+use Rattle.meaning.specs.NodeLaws.{order-means, commands-mean}
+use Rattle.meaning.specs.OutcomeLaws.{recorded-means, resolved-means, refuses-mean, stores-remain, none-remains}
+use Rattle.meaning.specs.WrittenLaws.{means-written, encode-written, row-bytes, within-written}
+use Rattle.meaning.specs.Elements.{array-means, integer-means, error-means, inner-means, keys-mean, no-key-means, keys-pushed-so, all-pushed-so}
+use Rattle.meaning.specs.Elements.{none-pushed-so}
 
 -- ---- what may be stored
 
@@ -114,6 +123,28 @@ module _ (size mode ttl : ℕ) (s : Bytes) (e : refused size mode (length s) ≡
       go none d f = refl
       go (some rows) d f = absurd (f rows (rows-are rows .0 d))
 
+-- ---- the book's answers
+
+served-means : (a : Answer) (v : Bytes) → (servedBy a ≡ some v) ↔ (a ≡ hit v)
+served-means a v = (served-only a, λ e. unfold servedBy in ap servedBy e)
+  where
+    served-only : (a : Answer) → servedBy a ≡ some v → a ≡ hit v
+    served-only (hit u) e = ap hit (Option·some-injective u v (unfold servedBy in e))
+    served-only miss e = absurd (Option·none-ne-some v (unfold servedBy in e))
+    served-only stored e = absurd (Option·none-ne-some v (unfold servedBy in e))
+    served-only spaceless e = absurd (Option·none-ne-some v (unfold servedBy in e))
+    served-only invalidated e = absurd (Option·none-ne-some v (unfold servedBy in e))
+    served-only (number n) e = absurd (Option·none-ne-some v (unfold servedBy in e))
+
+number-means : (a : Answer) → (numberOf spaceless ≡ noSpace) × ((a ≡ spaceless → ⊥) → numberOf a ≡ noCause)
+unfolding numberOf
+number-means (hit u) = (refl, λ n. refl)
+number-means miss = (refl, λ n. refl)
+number-means stored = (refl, λ n. refl)
+number-means spaceless = (refl, λ n. absurd (n refl))
+number-means invalidated = (refl, λ n. refl)
+number-means (number k) = (refl, λ n. refl)
+
 -- ---- all of them
 
 pub readings : Readings
@@ -126,6 +157,31 @@ readings =
       value-of = values.decode-law;
       plan-of = plans.decode-law;
       no-plan = plans.decode-none;
+      order = order-means;
+      commands-of = commands-mean;
+      means = means-written;
+      encoded = encode-written;
+      encoded-row = row-bytes;
+      within = within-written;
+      recorded-is = recorded-means;
+      refused-is = λ n buffer h. refl;
+      resolved-is = resolved-means;
+      refuses = refuses-mean;
+      stores-left = stores-remain;
+      none-left = none-remains;
+      same-is = λ a b. (same-eq a b, λ e. ap (λ (z : Bytes). same a z) (sym e) ∙ same-refl a);
+      array-of = array-means;
+      integer-of = integer-means;
+      no-error = error-means;
+      replies-of = array-means;
+      replies-in = inner-means;
+      keys-pushed = keys-pushed-so;
+      all-pushed = all-pushed-so;
+      none-pushed = none-pushed-so;
+      keys = keys-mean;
+      no-key = no-key-means;
+      serves = served-means;
+      number-of = number-means;
       rows-of = rows-are;
       no-rows = no-image;
     }

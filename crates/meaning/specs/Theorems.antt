@@ -45,7 +45,8 @@ use Rattle.cache_manager.specs.Pipeline as plannings
 use Rattle.cache_manager.specs.Pipeline.{refusal, recorded}
 use Rattle.caching_cmd.specs.Call as resolvings
 use Rattle.served.specs.Served.{servedOf, bufferOf}
-use Rattle.meaning.specs.Meaning.{Image, Enters, wrongSettings, noImage, onImage, Plans, recordTooLong, noRecord, ofRecord, Resolves, noPlan}
+use Rattle.meaning.specs.Meaning.{Enters, wrongSettings, noImage, onImage, Plans, recordTooLong, noRecord, ofRecord, Resolves, noPlan}
+use Rattle.meaning.specs.Rows.{Image}
 use Rattle.meaning.specs.Meaning.{noReplies, ofPlan, Pushes, noPush, ofValue, GivenValue, Calls, partTooLong, noValue, onBook, Looks}
 use Rattle.meaning.specs.Meaning.{keyTooLong, lookedUp, Serves, noPlanServed, ofPlanServed, EndsSo, isComplete, lacks, never, PlanMeans}
 use Rattle.meaning.specs.Meaning.{ResolveMeans, PushMeans, LookupMeans, StoreMeans, InvalidateMeans, ServedMeans, ValueEndMeans}
