@@ -4,18 +4,15 @@
 use mathlib.Core.Path.{_≡_, refl, sym, ap, _∙_}
 use mathlib.Core.List.{List, [], _∷_}
 use Prim.Native.Nat.{ℕ}
-use lib.ListN.{length}
 use Rattle.buffer.specs.Same.{Bytes}
 use Rattle.config.specs.declared.Settings.{Settings}
 use Rattle.statistics.specs.declared.Statistics.{Statistics}
-use Rattle.resp3.specs.Ends.{isValue}
 use Rattle.book.specs.Book.{Setup, Book, Row, Answer, lookup, on, after, afterAll, answers}
 use Rattle.book.specs.Calls.{Wanted, lookups, ons}
 use Rattle.book.specs.Lookups.{dry, planned}
-use Rattle.arena.specs.Image.{encode-injective}
 use Rattle.planning.specs.Outcome as plan
-use Rattle.sharded_lru.specs.Laws.{sized}
 use Rattle.sharded_lru.specs.Lent.{setupNow, Lent}
+use Rattle.key_filter.specs.Laws.{only-rows}
 use Rattle.planning_outcome.specs.Result.{saidOn, placeOn, PlaceTold}
 use Rattle.planning_outcome.specs.Places.{said-dry}
 use Rattle.planning_look_up.specs.Looks.{countsOf, Looks}
@@ -28,8 +25,7 @@ pub record Finds (g : Settings) (t e : ℕ) (w : Wanted) (a : Bytes) (n : Statis
 
 -- an arena holds one book's rows
 pub lent-same : {g : Settings} {a : Bytes} {x y : ℕ → Row} → Lent g a x → Lent g a y → x ≡ y
-lent-same {g} {a} {x} {y} v w =
-    encode-injective isValue (setupNow g) (length a) (sized g a x v) x y (v .image .formed) (w .image .formed) (v .image .bytes ∙ sym (w .image .bytes))
+lent-same {g} {a} {x} {y} v w = only-rows g a x y v w
 
 module _ (p : Setup) (t e : ℕ) where
   -- a lookup changes no answer
