@@ -11,7 +11,7 @@ use Rattle.config.specs.declared.Settings.{Settings}
 use Rattle.book.specs.Book.{Item, Row}
 use Rattle.book.specs.Each.{Each}
 use Rattle.arena_check.specs.Home.{markedBy}
-use Rattle.sharded_lru.specs.Lent.{Lent}
+use Rattle.sharded_lru.specs.Lent.{Lent, Arena}
 
 -- the number of a key's bit
 abbrev pub bitOf : Bytes → ℕ
@@ -44,3 +44,8 @@ Covers seen rows = (i : ℕ) → Marked seen (rows i)
 -- the filter tells of the arena: it covers whatever rows the bytes are the image of
 abbrev pub Filters : Settings → Bytes → List ℕ → Type 0
 Filters g s seen = (rows : ℕ → Row) → Lent g s rows → Covers seen rows
+
+-- an arena, and a filter that tells of it
+pub record Filtered (g : Settings) (s : Bytes) (seen : List ℕ) : Type 0 where
+  pub arena : Arena g s
+  pub filters : Filters g s seen

@@ -6,7 +6,7 @@ use native.Mathlib.Omega.{arith}
 use native.Mathlib.Nat.{div-self, max-le, le-max-left, le-max-right}
 use lib.Pow.{pow-pos}
 use mathlib.Core.Bool.{true, false, true≢false}
-use mathlib.Core.Option.{none, Option·some-injective}
+use mathlib.Core.Option.{none}
 use mathlib.Core.List.{List, [], _∷_}
 use lib.Bits.{bitOr, or-step, or-shr}
 use lib.Dec.{eqb, ltb}
@@ -17,13 +17,11 @@ use Rattle.buffer.specs.Cases.{byTest}
 use Rattle.buffer.specs.Same.{Bytes, same, same-eq}
 use Rattle.config.specs.declared.Settings.{Settings}
 use Rattle.siphash.specs.Shard.{shardOf}
-use Rattle.resp3.specs.Ends.{isValue}
 use Rattle.book.specs.Book.{Setup, Row, Keyed, lookup, store, invalidate, keyOf, on, find, setRow}
 use Rattle.book.specs.Each.{Brings, each-effectOn}
 use Rattle.book.specs.Trace.{row-here, row-elsewhere}
-use Rattle.arena.specs.Image.{decodes}
 use Rattle.sharded_lru.specs.Lent.{setupNow, Lent, Arena, effectIn, rowsAfter}
-use Rattle.sharded_lru.specs.Laws.{sized}
+use Rattle.sharded_lru.specs.Laws.{lent-same}
 use Rattle.key_filter.specs.Filter.{bitOf, isSet, setBit, mayHold, Grows, Marked, Covers, Filters}
 
 -- ---- bits
@@ -119,15 +117,9 @@ covers-after p seen q rows h w i =
 
 -- ---- arenas
 
--- bytes are the image of one book's rows alone
-pub only-rows : (g : Settings) (s : Bytes) (a b : ℕ → Row) → Lent g s a → Lent g s b → a ≡ b
-only-rows g s a b v w =
-    Option·some-injective a b
-    (sym (decodes isValue (setupNow g) s (sized g s a v) a .1 (v .image)) ∙ decodes isValue (setupNow g) s (sized g s a v) b .1 (w .image))
-
 -- so it is enough to look at rows that are at hand
 pub filters-one : (g : Settings) (s : Bytes) (rows : ℕ → Row) (seen : List ℕ) → Lent g s rows → Covers seen rows → Filters g s seen
-filters-one g s rows seen l w others m = subst (Covers seen) (only-rows g s rows others l m) w
+filters-one g s rows seen l w others m = subst (Covers seen) (lent-same l m) w
 
 -- the table of no words tells of every arena
 pub filters-none : (g : Settings) (s : Bytes) → Filters g s []

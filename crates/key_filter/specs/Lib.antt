@@ -1,2 +1,3 @@
 pub mod Filter
 pub mod Laws
+pub mod Absent

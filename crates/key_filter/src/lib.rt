@@ -3,17 +3,23 @@
 // key and costs nothing: calls too short to pay for a walk over all items are lent that one.
 //
 // What a filter says of an arena is specs/Filter.antt. `fill` makes one true by one walk over all items; the other functions keep it true.
+use command_key::CommandKey;
+use config::Now;
 use config::Settings;
+use shard_lookup::Looked;
 ghost use mathlib.Core.Path.{_≡_};
 ghost use mathlib.Core.Bool.{cond, true};
 ghost use mathlib.Core.List.{List};
 ghost use Prim.Native.Nat.{ℕ, _<_};
 ghost use Rattle.resp3.specs.Ends.{isValue};
-ghost use Rattle.book.specs.Book.{Item, Row, stored, noSpace, store, on};
+ghost use Rattle.book.specs.Book.{Item, Row, stored, noSpace, lookup, store, on};
+ghost use Rattle.arena.specs.Place.{arenaPlace};
+ghost use Rattle.command_key.specs.Key.{keyBytes, KeyIn};
 ghost use Rattle.shard.specs.Holds.{Holds, Shard, Stands, ItemAt};
+ghost use Rattle.shard_lookup.specs.Looked.{Told, BeginsAt};
 ghost use Rattle.shard_store.specs.Store.{Storable};
 ghost use Rattle.sharded_lru.specs.Lent.{setupNow, Lent, Arena, effectIn, rowsAfter};
-ghost use Rattle.key_filter.specs.Filter.{bitOf, mayHold, setBit, Grows, Marked, Filters};
+ghost use Rattle.key_filter.specs.Filter.{bitOf, mayHold, setBit, Grows, Marked, Filters, Filtered};
 
 // The number of the key's bit.
 fn bit_of(key: &[u8]) -> u64
@@ -80,6 +86,44 @@ pub fn fill(arena: &[u8], g: Settings, seen: &mut [u64])
         note_shard(&arena[from..to], seen);
         i += 1;
     }
+}
+
+// What `sharded_lru::peek` answers; the key is searched for only where an item may have it.
+pub fn peek(
+    arena: &[u8],
+    g: Settings,
+    key: &[u8],
+    source: &[u8],
+    command: CommandKey,
+    when: Now,
+    seen: &[u64],
+) -> Looked
+    requires { ⌜ Filtered g (now arena) (now seen) × KeyIn (now source) command ⌝ }
+    ensures { λ r. ⌜ ((rows : ℕ → Row) → Lent g (now (arena .entry)) rows → Told (now (arena .entry)) (effectIn (setupNow g) (lookup (now (key .entry)) (keyBytes (now (source .entry)) command) (when .clock) (when .epoch)) rows) r) ⌝ }
+{
+    if !may_hold(seen, key) {
+        return Looked::Miss(0);
+    }
+    sharded_lru::peek(arena, g, key, source, command, when)
+}
+
+// What `sharded_lru::get` does, likewise: a lookup of a key that no item has changes nothing.
+pub fn get(
+    arena: &mut [u8],
+    g: Settings,
+    key: &[u8],
+    source: &[u8],
+    command: CommandKey,
+    when: Now,
+    seen: &[u64],
+) -> Looked
+    requires { ⌜ Filtered g (now arena) (now seen) × KeyIn (now source) command ⌝ }
+    ensures { λ r. ⌜ ((rows : ℕ → Row) → Lent g (now (arena .entry)) rows → Lent g (now (arena .exit)) (rowsAfter (setupNow g) (on (lookup (now (key .entry)) (keyBytes (now (source .entry)) command) (when .clock) (when .epoch))) rows) × Told (now (arena .exit)) (effectIn (setupNow g) (lookup (now (key .entry)) (keyBytes (now (source .entry)) command) (when .clock) (when .epoch)) rows) r × BeginsAt (arenaPlace (setupNow g) (now (key .entry)) (keyBytes (now (source .entry)) command) (rowsAfter (setupNow g) (on (lookup (now (key .entry)) (keyBytes (now (source .entry)) command) (when .clock) (when .epoch))) rows)) r) ⌝ }
+{
+    if !may_hold(seen, key) {
+        return Looked::Miss(0);
+    }
+    sharded_lru::get(arena, g, key, source, command, when)
 }
 
 // Stores the value as `sharded_lru::insert` does, and searches for the key only where an item may have it. The filter tells of the arena as it is left.

@@ -1,5 +1,6 @@
 // The dry pass of planning: whether what planning writes fits its two buffers, found by peeking, before anything is written or looked up.
 // specs/Size.antt measures a command, crate room counts the room down; planning_outcome says what is written for each command.
+// `seen` is a filter of keys that tells of the arena (crate key_filter): a key that it says is absent is not searched for.
 use command_key::CommandKey;
 use config::Now;
 use config::Settings;
@@ -23,6 +24,7 @@ ghost use Rattle.planning.specs.Ask.{ask};
 ghost use Rattle.planning.specs.Outcome.{ignored, item, notCacheable, singleItem, wholeKey};
 ghost use Rattle.planning_ask.specs.Asked.{SeveralIn};
 ghost use Rattle.sharded_lru.specs.Lent.{setupNow, Lent, Arena};
+ghost use Rattle.key_filter.specs.Filter.{Filtered};
 ghost use Rattle.planning_outcome.specs.Result.{placeOn, severalItem, PlaceTold};
 ghost use Rattle.planning_outcome.specs.Sizes.{allNodes, allSent};
 ghost use Rattle.room.specs.Room.{spent};
@@ -47,24 +49,40 @@ fn size_own(bytes: &[u8], head: Head) -> Size
 }
 
 // One key of a command, peeked.
-fn peek_one(bytes: &[u8], head: Head, key: Range, arena: &[u8], g: Settings, when: Now) -> Looked
-    requires { ⌜ ArgsHere (now bytes) (head .args) × RangeIn (now bytes) key × Arena g (now arena) ⌝ }
+fn peek_one(
+    bytes: &[u8],
+    head: Head,
+    key: Range,
+    arena: &[u8],
+    g: Settings,
+    when: Now,
+    seen: &[u64],
+) -> Looked
+    requires { ⌜ ArgsHere (now bytes) (head .args) × RangeIn (now bytes) key × Filtered g (now arena) (now seen) ⌝ }
     ensures { λ r. ⌜ ((rows : ℕ → Row) → Lent g (now (arena .entry)) rows → PlaceTold (now (arena .entry)) (wholeKey (commandOf (now (bytes .entry)) head) (rangeBytes (now (bytes .entry)) key)) (placeOn (setupNow g) rows (when .clock) (when .epoch) (wholeKey (commandOf (now (bytes .entry)) head) (rangeBytes (now (bytes .entry)) key))) r) ⌝ }
 {
     let text = cursor::bytes_in(bytes, key);
     let args = head.args;
     let command = CommandKey::Joined(args);
-    sharded_lru::peek(arena, g, text, bytes, command, when)
+    key_filter::peek(arena, g, text, bytes, command, when, seen)
 }
 
 // The bytes that a command with one key takes.
-fn size_one(bytes: &[u8], head: Head, key: Range, arena: &[u8], g: Settings, when: Now) -> Size
-    requires { ⌜ ArgsHere (now bytes) (head .args) × (length (now bytes) ≤ maxBytes) × (head .args .left ≤ maxArguments) × RangeIn (now bytes) key × Arena g (now arena) ⌝ }
+fn size_one(
+    bytes: &[u8],
+    head: Head,
+    key: Range,
+    arena: &[u8],
+    g: Settings,
+    when: Now,
+    seen: &[u64],
+) -> Size
+    requires { ⌜ ArgsHere (now bytes) (head .args) × (length (now bytes) ≤ maxBytes) × (head .args .left ≤ maxArguments) × RangeIn (now bytes) key × Filtered g (now arena) (now seen) ⌝ }
     ensures { λ r. ⌜ ((rows : ℕ → Row) → Lent g (now (arena .entry)) rows → (x : ℕ) → SizedAs (g .mode) (commandOf (now (bytes .entry)) head) (item (singleItem (placeOn (setupNow g) rows (when .clock) (when .epoch) (wholeKey (commandOf (now (bytes .entry)) head) (rangeBytes (now (bytes .entry)) key))) x)) r) ⌝ }
 {
     let mode = g.mode;
     let args = head.args;
-    match peek_one(bytes, head, key, arena, g, when) {
+    match peek_one(bytes, head, key, arena, g, when, seen) {
         Looked::Hit { from, to } => Size {
             plan: planning::NODE_HEAD + (to - from),
             send: 0,
@@ -81,12 +99,19 @@ fn size_one(bytes: &[u8], head: Head, key: Range, arena: &[u8], g: Settings, whe
 }
 
 // The bytes that a command with several keys takes.
-fn size_several(bytes: &[u8], v: Several, arena: &[u8], g: Settings, when: Now) -> Size
-    requires { ⌜ SeveralIn (now bytes) v × (length (now bytes) ≤ maxBytes) × Arena g (now arena) ⌝ }
+fn size_several(
+    bytes: &[u8],
+    v: Several,
+    arena: &[u8],
+    g: Settings,
+    when: Now,
+    seen: &[u64],
+) -> Size
+    requires { ⌜ SeveralIn (now bytes) v × (length (now bytes) ≤ maxBytes) × Filtered g (now arena) (now seen) ⌝ }
     ensures { λ r. ⌜ ((rows : ℕ → Row) → Lent g (now (arena .entry)) rows → (c : Command) (x : ℕ) → SizedAs (g .mode) c (item (severalItem (setupNow g) rows (when .clock) (when .epoch) (now (bytes .entry)) v x)) r) ⌝ }
 {
     let mode = g.mode;
-    let m = planning_places::measure(bytes, v, arena, g, when);
+    let m = planning_places::measure(bytes, v, arena, g, when, seen);
     if m.missing == 0 {
         Size {
             plan: planning::NODE_HEAD + m.nodes,
@@ -101,19 +126,75 @@ fn size_several(bytes: &[u8], v: Several, arena: &[u8], g: Settings, when: Now) 
 }
 
 // The bytes that one command takes: each of its keys is peeked once.
-pub fn size_of(bytes: &[u8], head: Head, arena: &[u8], g: Settings, when: Now) -> Size
-    requires { ⌜ One g (when .clock) (now bytes) head × (length (now bytes) ≤ maxBytes) × Arena g (now arena) ⌝ }
+fn size_by(bytes: &[u8], head: Head, arena: &[u8], g: Settings, when: Now, seen: &[u64]) -> Size
+    requires { ⌜ One g (when .clock) (now bytes) head × (length (now bytes) ≤ maxBytes) × Filtered g (now arena) (now seen) ⌝ }
     ensures { λ r. ⌜ ((rows : ℕ → Row) → Lent g (now (arena .entry)) rows → SizeIs g rows (when .clock) (when .epoch) (commandOf (now (bytes .entry)) head) r) ⌝ }
 {
     match planning_ask::ask(bytes, head, g, when.clock) {
         Asked::Nothing => size_own(bytes, head),
         Asked::Uncacheable => size_own(bytes, head),
-        Asked::OneKey(key, _) => size_one(bytes, head, key, arena, g, when),
-        Asked::SeveralKeys(v, _) => size_several(bytes, v, arena, g, when),
+        Asked::OneKey(key, _) => size_one(bytes, head, key, arena, g, when, seen),
+        Asked::SeveralKeys(v, _) => size_several(bytes, v, arena, g, when, seen),
     }
 }
 
+// The same without a filter.
+pub fn size_of(bytes: &[u8], head: Head, arena: &[u8], g: Settings, when: Now) -> Size
+    requires { ⌜ One g (when .clock) (now bytes) head × (length (now bytes) ≤ maxBytes) × Arena g (now arena) ⌝ }
+    ensures { λ r. ⌜ ((rows : ℕ → Row) → Lent g (now (arena .entry)) rows → SizeIs g rows (when .clock) (when .epoch) (commandOf (now (bytes .entry)) head) r) ⌝ }
+{
+    let none = [0u64; 0];
+    size_by(bytes, head, arena, g, when, &none)
+}
+
 // Whether either room is short for what the commands take.
+fn dry_each(
+    bytes: &[u8],
+    k: Commands,
+    arena: &[u8],
+    g: Settings,
+    when: Now,
+    plan: Room,
+    send: Room,
+    seen: &[u64],
+) -> bool
+    requires { ⌜ Planable g (when .clock) (now bytes) (k .left) (k .at) × (length (now bytes) ≤ maxBytes) × Filtered g (now arena) (now seen) ⌝ }
+    ensures { λ r. ⌜ ((rows : ℕ → Row) → Lent g (now (arena .entry)) rows → r ≡ (spent plan (length (allNodes (setupNow g) rows (when .clock) (when .epoch) (ask g (when .clock)) (commandsOf (now (bytes .entry)) k))) .short || spent send (length (allSent (setupNow g) rows (when .clock) (when .epoch) (ask g (when .clock)) (g .mode) (commandsOf (now (bytes .entry)) k))) .short)) ⌝ }
+{
+    let mut at = k.at;
+    let mut left = k.left;
+    let mut p = plan;
+    let mut q = send;
+    while left > 0 {
+        let head = cursor::head_at(bytes, at);
+        let size = size_by(bytes, head, arena, g, when, seen);
+        p = room::spend(p, size.plan);
+        q = room::spend(q, size.send);
+        at = cursor::args_end(bytes, head.args);
+        left -= 1;
+    }
+    p.short || q.short
+}
+
+// The same with a filter that is made first, of as many words as the keys' bits need.
+fn dry_filtered(
+    bytes: &[u8],
+    k: Commands,
+    arena: &[u8],
+    g: Settings,
+    when: Now,
+    plan: Room,
+    send: Room,
+) -> bool
+    requires { ⌜ Planable g (when .clock) (now bytes) (k .left) (k .at) × (length (now bytes) ≤ maxBytes) × Arena g (now arena) ⌝ }
+    ensures { λ r. ⌜ ((rows : ℕ → Row) → Lent g (now (arena .entry)) rows → r ≡ (spent plan (length (allNodes (setupNow g) rows (when .clock) (when .epoch) (ask g (when .clock)) (commandsOf (now (bytes .entry)) k))) .short || spent send (length (allSent (setupNow g) rows (when .clock) (when .epoch) (ask g (when .clock)) (g .mode) (commandsOf (now (bytes .entry)) k))) .short)) ⌝ }
+{
+    let mut seen = [0u64; 1024];
+    key_filter::fill(arena, g, &mut seen);
+    dry_each(bytes, k, arena, g, when, plan, send, &seen)
+}
+
+// Whether either room is short for what the commands take. A filter pays from some dozens of keys on.
 pub fn dry_pass(
     bytes: &[u8],
     k: Commands,
@@ -126,17 +207,9 @@ pub fn dry_pass(
     requires { ⌜ Planable g (when .clock) (now bytes) (k .left) (k .at) × (length (now bytes) ≤ maxBytes) × Arena g (now arena) ⌝ }
     ensures { λ r. ⌜ ((rows : ℕ → Row) → Lent g (now (arena .entry)) rows → r ≡ (spent plan (length (allNodes (setupNow g) rows (when .clock) (when .epoch) (ask g (when .clock)) (commandsOf (now (bytes .entry)) k))) .short || spent send (length (allSent (setupNow g) rows (when .clock) (when .epoch) (ask g (when .clock)) (g .mode) (commandsOf (now (bytes .entry)) k))) .short)) ⌝ }
 {
-    let mut at = k.at;
-    let mut left = k.left;
-    let mut p = plan;
-    let mut q = send;
-    while left > 0 {
-        let head = cursor::head_at(bytes, at);
-        let size = size_of(bytes, head, arena, g, when);
-        p = room::spend(p, size.plan);
-        q = room::spend(q, size.send);
-        at = cursor::args_end(bytes, head.args);
-        left -= 1;
+    if bytes.len() < 2048 {
+        let none = [0u64; 0];
+        return dry_each(bytes, k, arena, g, when, plan, send, &none);
     }
-    p.short || q.short
+    dry_filtered(bytes, k, arena, g, when, plan, send)
 }

@@ -20,6 +20,9 @@ use Rattle.planning.specs.Outcome.{wholeKey, partKey, partKeys, wants}
 use Rattle.shard_lookup.specs.Looked.{addsBy, Told, told-adds}
 use Rattle.shard_lookup.specs.declared.Looked.{Looked}
 use Rattle.sharded_lru.specs.Lent.{setupNow, Lent, Arena, effectIn, rowsAfter}
+use Rattle.sharded_lru.specs.Laws.{rows-after}
+use Rattle.key_filter.specs.Filter.{Covers, Filters}
+use Rattle.key_filter.specs.Laws.{covers-after, filters-one}
 use Rattle.planning_ask.specs.Asked.{simplesOf, severalName, pathIn, keysIn, wantedIn, SeveralIn, KeyStep}
 use Rattle.planning_ask.specs.declared.KeyAt.{KeyAt}
 use Rattle.planning_ask.specs.declared.Several.{Several}
@@ -76,6 +79,24 @@ module _ (g : Settings) (t e : ℕ) where
         rows = afterAll (setupNow g) (ons (lookups t e ws)) bk .rows;
         lent = x bk (record { rows = w .lent; counts = refl }) .rows;
       }
+
+  -- the rows after lookups are covered as those before
+  covers-lookups : (seen : List ℕ) (ws : List Wanted) (bk : Book) → Covers seen (bk .rows)
+      → Covers seen (afterAll (setupNow g) (ons (lookups t e ws)) bk .rows)
+  unfolding afterAll ons lookups
+  covers-lookups seen [] bk c = c
+  covers-lookups seen (w ∷ ws) bk c =
+      let q : Keyed = lookup (w .key) (w .command) t e in
+      covers-lookups seen ws (after (setupNow g) (on q) bk)
+      (subst (Covers seen) (sym (rows-after (setupNow g) (on q) bk)) (covers-after (setupNow g) seen q (bk .rows) tt c))
+
+  -- and a filter that told of the arena still does
+  pub looks-filters : (seen : List ℕ) (ws : List Wanted) (a a′ : Bytes) (n n′ : Statistics) → Looks g t e ws a n a′ n′ → Arena g a → Filters g a seen
+      → Filters g a′ seen
+  looks-filters seen ws a a′ n n′ x w f =
+      let bk : Book = record { rows = w .rows; counts = countsOf n; next = 0 } in
+      filters-one g a′ (afterAll (setupNow g) (ons (lookups t e ws)) bk .rows) seen (x bk (record { rows = w .lent; counts = refl }) .rows)
+      (covers-lookups seen ws bk (f (w .rows) (w .lent)))
 
 -- ---- the keys of several, one after the other
 

@@ -9,7 +9,7 @@ ghost use mathlib.Core.Path.{_≡_};
 ghost use Rattle.cursor.specs.At.{rangeBytes, RangeIn};
 ghost use Rattle.command_key.specs.Key.{keyBytes, KeyIn};
 ghost use Rattle.book.specs.Calls.{Wanted};
-ghost use Rattle.sharded_lru.specs.Lent.{Arena};
+ghost use Rattle.key_filter.specs.Filter.{Filtered};
 ghost use Rattle.planning_look_up.specs.Finds.{Finds};
 
 // What a lookup found, and the counts after it.
@@ -27,12 +27,13 @@ pub fn look_up_key(
     g: Settings,
     when: Now,
     counts: Statistics,
+    seen: &[u64],
 ) -> Found
-    requires { ⌜ RangeIn (now bytes) key × KeyIn (now bytes) command × Arena g (now arena) ⌝ }
+    requires { ⌜ RangeIn (now bytes) key × KeyIn (now bytes) command × Filtered g (now arena) (now seen) ⌝ }
     ensures { λ r. ⌜ ((w : Wanted) → w .key ≡ rangeBytes (now (bytes .entry)) key → w .command ≡ keyBytes (now (bytes .entry)) command → Finds g (when .clock) (when .epoch) w (now (arena .entry)) counts (now (arena .exit)) r) ⌝ }
 {
     let text = cursor::bytes_in(bytes, key);
-    let looked = sharded_lru::get(arena, g, text, bytes, command, when);
+    let looked = key_filter::get(arena, g, text, bytes, command, when, seen);
     Found {
         looked: looked,
         counts: shard_lookup::counted(counts, looked),

@@ -1,5 +1,6 @@
 // A command's keys looked up, each one's node written to the plan as it is found, and the outcome; after `get_cached_cmd` (cache_manager.rs). Each key is
 // searched once. specs/Prepared.antt says what it comes to.
+// `seen` is a filter of keys that tells of the arena (crate key_filter), and of what lookups leave of it: a key that it says is absent is not searched for.
 use command_key::CommandKey;
 use config::Now;
 use config::Settings;
@@ -28,7 +29,8 @@ ghost use Rattle.planning.specs.Ask.{ask};
 ghost use Rattle.planning.specs.Outcome.{ignored, item, notCacheable, singleItem, wholeKey, wants};
 ghost use Rattle.planning.specs.Plan.{placeNodes, encNode};
 ghost use Rattle.planning_ask.specs.Asked.{wantedIn, SeveralIn, OnTime};
-ghost use Rattle.sharded_lru.specs.Lent.{setupNow, Lent, Arena};
+ghost use Rattle.sharded_lru.specs.Lent.{setupNow, Lent};
+ghost use Rattle.key_filter.specs.Filter.{Filtered};
 ghost use Rattle.planning_outcome.specs.Result.{placeOn, severalItem, outcomeFor};
 ghost use Rattle.planning_look_up.specs.Looks.{Looks};
 ghost use Rattle.planning_outcome.specs.Nodes.{nodesAs};
@@ -62,14 +64,15 @@ fn write_place(
     g: Settings,
     when: Now,
     x: Written,
+    seen: &[u64],
 ) -> Written
-    requires { ⌜ SeveralIn (now bytes) v × RangeIn (now bytes) key × (length (now bytes) ≤ maxBytes) × Arena g (now arena) × ((rows : ℕ → Row) → Lent g (now arena) rows → x .to + length (placeNode expiry (placeOn (setupNow g) rows (when .clock) (when .epoch) (wantAt (now bytes) v key))) ≤ length (now plan)) × (x .missing + 1 < 2 ^ 64) ⌝ }
+    requires { ⌜ SeveralIn (now bytes) v × RangeIn (now bytes) key × (length (now bytes) ≤ maxBytes) × Filtered g (now arena) (now seen) × ((rows : ℕ → Row) → Lent g (now arena) rows → x .to + length (placeNode expiry (placeOn (setupNow g) rows (when .clock) (when .epoch) (wantAt (now bytes) v key))) ≤ length (now plan)) × (x .missing + 1 < 2 ^ 64) ⌝ }
     ensures { λ r. ⌜ Placed g (when .clock) (when .epoch) expiry (wantAt (now (bytes .entry)) v key) (now (arena .entry)) (now (plan .entry)) x (now (arena .exit)) (now (plan .exit)) r ⌝ }
 {
     let path = v.path;
     let command = CommandKey::Named(v.json, key, path);
     let before = x.counts;
-    let found = planning_look_up::look_up_key(arena, bytes, key, command, g, when, before);
+    let found = planning_look_up::look_up_key(arena, bytes, key, command, g, when, before, seen);
     let counts = found.counts;
     let looked = found.looked;
     match looked {
@@ -99,8 +102,9 @@ fn write_places(
     g: Settings,
     when: Now,
     x: Written,
+    seen: &[u64],
 ) -> Written
-    requires { ⌜ SeveralIn (now bytes) v × (length (now bytes) ≤ maxBytes) × Arena g (now arena) × ((rows : ℕ → Row) → Lent g (now arena) rows → x .to + length (encAll encNode (placeNodes expiry (placesNow g rows (when .clock) (when .epoch) (now bytes) v))) ≤ length (now plan)) × (x .missing ≤ maxBytes) ⌝ }
+    requires { ⌜ SeveralIn (now bytes) v × (length (now bytes) ≤ maxBytes) × Filtered g (now arena) (now seen) × ((rows : ℕ → Row) → Lent g (now arena) rows → x .to + length (encAll encNode (placeNodes expiry (placesNow g rows (when .clock) (when .epoch) (now bytes) v))) ≤ length (now plan)) × (x .missing ≤ maxBytes) ⌝ }
     ensures { λ r. ⌜ Done g (when .clock) (when .epoch) expiry (now (bytes .entry)) v (now (arena .entry)) (now (plan .entry)) x (now (arena .exit)) (now (plan .exit)) r ⌝ }
 {
     let mut k = v.args;
@@ -109,7 +113,7 @@ fn write_places(
     while left > 0 {
         let here = planning_ask::next_key(bytes, k);
         let key = here.key;
-        y = write_place(plan, arena, bytes, v, key, expiry, g, when, y);
+        y = write_place(plan, arena, bytes, v, key, expiry, g, when, y, seen);
         k = here.rest;
         left -= 1;
     }
@@ -127,8 +131,9 @@ fn write_several(
     g: Settings,
     when: Now,
     counts: Statistics,
+    seen: &[u64],
 ) -> Prepared
-    requires { ⌜ SeveralIn (now bytes) v × (length (now bytes) ≤ maxBytes) × Arena g (now arena) × ((rows : ℕ → Row) → Lent g (now arena) rows → to + length (nodesAs (item (severalItem (setupNow g) rows (when .clock) (when .epoch) (now bytes) v expiry))) ≤ length (now plan)) ⌝ }
+    requires { ⌜ SeveralIn (now bytes) v × (length (now bytes) ≤ maxBytes) × Filtered g (now arena) (now seen) × ((rows : ℕ → Row) → Lent g (now arena) rows → to + length (nodesAs (item (severalItem (setupNow g) rows (when .clock) (when .epoch) (now bytes) v expiry))) ≤ length (now plan)) ⌝ }
     ensures { λ r. ⌜ Looks g (when .clock) (when .epoch) (wantedIn (now (bytes .entry)) v) (now (arena .entry)) counts (now (arena .exit)) (r .counts) × ((rows : ℕ → Row) → Lent g (now (arena .entry)) rows → (c : Command) → Prepares g rows (when .clock) (when .epoch) (now (bytes .entry)) (now (arena .exit)) (now (plan .entry)) to (now (plan .exit)) c (item (severalItem (setupNow g) rows (when .clock) (when .epoch) (now (bytes .entry)) v expiry)) r) ⌝ }
 {
     let start = to + planning::NODE_HEAD;
@@ -137,7 +142,7 @@ fn write_several(
         missing: 0,
         counts: counts,
     };
-    let x = write_places(plan, arena, bytes, v, expiry, g, when, first);
+    let x = write_places(plan, arena, bytes, v, expiry, g, when, first, seen);
     let after = x.counts;
     if x.missing == 0 {
         plan_write::write_bare(plan, to, planning::NODE_ALL_SERVED, v.keys as u64);
@@ -175,13 +180,14 @@ fn write_one(
     g: Settings,
     when: Now,
     counts: Statistics,
+    seen: &[u64],
 ) -> Prepared
-    requires { ⌜ ArgsHere (now bytes) (head .args) × RangeIn (now bytes) key × (length (now bytes) ≤ maxBytes) × Arena g (now arena) × ((rows : ℕ → Row) → Lent g (now arena) rows → to + length (nodesAs (item (singleItem (placeOn (setupNow g) rows (when .clock) (when .epoch) (wholeKey (commandOf (now bytes) head) (rangeBytes (now bytes) key))) expiry))) ≤ length (now plan)) ⌝ }
+    requires { ⌜ ArgsHere (now bytes) (head .args) × RangeIn (now bytes) key × (length (now bytes) ≤ maxBytes) × Filtered g (now arena) (now seen) × ((rows : ℕ → Row) → Lent g (now arena) rows → to + length (nodesAs (item (singleItem (placeOn (setupNow g) rows (when .clock) (when .epoch) (wholeKey (commandOf (now bytes) head) (rangeBytes (now bytes) key))) expiry))) ≤ length (now plan)) ⌝ }
     ensures { λ r. ⌜ Looks g (when .clock) (when .epoch) (wholeKey (commandOf (now (bytes .entry)) head) (rangeBytes (now (bytes .entry)) key) ∷ []) (now (arena .entry)) counts (now (arena .exit)) (r .counts) × ((rows : ℕ → Row) → Lent g (now (arena .entry)) rows → Prepares g rows (when .clock) (when .epoch) (now (bytes .entry)) (now (arena .exit)) (now (plan .entry)) to (now (plan .exit)) (commandOf (now (bytes .entry)) head) (item (singleItem (placeOn (setupNow g) rows (when .clock) (when .epoch) (wholeKey (commandOf (now (bytes .entry)) head) (rangeBytes (now (bytes .entry)) key))) expiry)) r) ⌝ }
 {
     let args = head.args;
     let command = CommandKey::Joined(args);
-    let found = planning_look_up::look_up_key(arena, bytes, key, command, g, when, counts);
+    let found = planning_look_up::look_up_key(arena, bytes, key, command, g, when, counts, seen);
     let after = found.counts;
     let looked = found.looked;
     match looked {
@@ -222,8 +228,9 @@ pub fn get_cached_cmd(
     g: Settings,
     when: Now,
     counts: Statistics,
+    seen: &[u64],
 ) -> Prepared
-    requires { ⌜ ArgsHere (now bytes) (head .args) × OnTime g (when .clock) (commandOf (now bytes) head) × (length (now bytes) ≤ maxBytes) × Arena g (now arena) × ((rows : ℕ → Row) → Lent g (now arena) rows → to + length (nodesAs (outcomeFor (setupNow g) rows (when .clock) (when .epoch) (ask g (when .clock)) (commandOf (now bytes) head))) ≤ length (now plan)) ⌝ }
+    requires { ⌜ ArgsHere (now bytes) (head .args) × OnTime g (when .clock) (commandOf (now bytes) head) × (length (now bytes) ≤ maxBytes) × Filtered g (now arena) (now seen) × ((rows : ℕ → Row) → Lent g (now arena) rows → to + length (nodesAs (outcomeFor (setupNow g) rows (when .clock) (when .epoch) (ask g (when .clock)) (commandOf (now bytes) head))) ≤ length (now plan)) ⌝ }
     ensures { λ r. ⌜ Looks g (when .clock) (when .epoch) (wants (commandOf (now (bytes .entry)) head) (ask g (when .clock) (commandOf (now (bytes .entry)) head))) (now (arena .entry)) counts (now (arena .exit)) (r .counts) × ((rows : ℕ → Row) → Lent g (now (arena .entry)) rows → Prepares g rows (when .clock) (when .epoch) (now (bytes .entry)) (now (arena .exit)) (now (plan .entry)) to (now (plan .exit)) (commandOf (now (bytes .entry)) head) (outcomeFor (setupNow g) rows (when .clock) (when .epoch) (ask g (when .clock)) (commandOf (now (bytes .entry)) head)) r) ⌝ }
 {
     match planning_ask::ask(bytes, head, g, when.clock) {
@@ -250,6 +257,7 @@ pub fn get_cached_cmd(
             g,
             when,
             counts,
+            seen,
         ),
         Asked::SeveralKeys(v, expiry) => write_several(
             plan,
@@ -261,6 +269,7 @@ pub fn get_cached_cmd(
             g,
             when,
             counts,
+            seen,
         ),
     }
 }

@@ -13,7 +13,8 @@ ghost use Rattle.config.specs.Limits.{maxBytes};
 ghost use Rattle.cursor.specs.At.{rangeBytes, RangeIn};
 ghost use Rattle.book.specs.Book.{Row};
 ghost use Rattle.planning.specs.Outcome.{partKey};
-ghost use Rattle.sharded_lru.specs.Lent.{setupNow, Lent, Arena};
+ghost use Rattle.sharded_lru.specs.Lent.{setupNow, Lent};
+ghost use Rattle.key_filter.specs.Filter.{Filtered};
 ghost use Rattle.planning_ask.specs.Asked.{severalName, pathIn, SeveralIn};
 ghost use Rattle.planning_outcome.specs.Result.{placeOn, PlaceTold};
 
@@ -49,12 +50,13 @@ pub fn peek_key(
     arena: &[u8],
     g: Settings,
     when: Now,
+    seen: &[u64],
 ) -> Looked
-    requires { ⌜ SeveralIn (now bytes) v × RangeIn (now bytes) key × (length (now bytes) ≤ maxBytes) × Arena g (now arena) ⌝ }
+    requires { ⌜ SeveralIn (now bytes) v × RangeIn (now bytes) key × (length (now bytes) ≤ maxBytes) × Filtered g (now arena) (now seen) ⌝ }
     ensures { λ r. ⌜ ((rows : ℕ → Row) → Lent g (now (arena .entry)) rows → PlaceTold (now (arena .entry)) (partKey (severalName (v .json)) (pathIn (now (bytes .entry)) v) (rangeBytes (now (bytes .entry)) key)) (placeOn (setupNow g) rows (when .clock) (when .epoch) (partKey (severalName (v .json)) (pathIn (now (bytes .entry)) v) (rangeBytes (now (bytes .entry)) key))) r) ⌝ }
 {
     let text = cursor::bytes_in(bytes, key);
     let path = v.path;
     let command = CommandKey::Named(v.json, key, path);
-    sharded_lru::peek(arena, g, text, bytes, command, when)
+    key_filter::peek(arena, g, text, bytes, command, when, seen)
 }

@@ -17,7 +17,8 @@ ghost use Rattle.cursor.specs.At.{rangeBytes, RangeIn};
 ghost use Rattle.cmd.specs.Laws.{Wrote};
 ghost use Rattle.book.specs.Book.{Row};
 ghost use Rattle.planning_ask.specs.Asked.{SeveralIn};
-ghost use Rattle.sharded_lru.specs.Lent.{Lent, Arena};
+ghost use Rattle.sharded_lru.specs.Lent.{Lent};
+ghost use Rattle.key_filter.specs.Filter.{Filtered};
 ghost use Rattle.planning_places.specs.Pieces.{pieceOf, pieces, placeAt, placesNow};
 ghost use Rattle.planning_places.specs.Measure.{Measures, More, Grows, Bounded};
 ghost use Rattle.planning_places.specs.Source.{keysAt, KeysIn, Step};
@@ -38,13 +39,14 @@ fn measure_key(
     g: Settings,
     when: Now,
     m: Measured,
+    seen: &[u64],
 ) -> Measured
-    requires { ⌜ SeveralIn (now bytes) v × RangeIn (now bytes) key × (length (now bytes) ≤ maxBytes) × Arena g (now arena) × Bounded maxBytes m ⌝ }
+    requires { ⌜ SeveralIn (now bytes) v × RangeIn (now bytes) key × (length (now bytes) ≤ maxBytes) × Filtered g (now arena) (now seen) × Bounded maxBytes m ⌝ }
     ensures { λ r. ⌜ ((rows : ℕ → Row) → Lent g (now (arena .entry)) rows → More m (placeAt g rows (when .clock) (when .epoch) (now (bytes .entry)) v key) r) × Grows m r ⌝ }
 {
     let path = v.path;
     let command = CommandKey::Named(v.json, key, path);
-    match planning_outcome::peek_key(bytes, v, key, arena, g, when) {
+    match planning_outcome::peek_key(bytes, v, key, arena, g, when, seen) {
         Looked::Hit { from, to } => Measured {
             missing: m.missing,
             nodes: m.nodes + (planning::NODE_HEAD + (to - from)),
@@ -62,8 +64,15 @@ fn measure_key(
 }
 
 // What all of them take: each is peeked once.
-pub fn measure(bytes: &[u8], v: Several, arena: &[u8], g: Settings, when: Now) -> Measured
-    requires { ⌜ SeveralIn (now bytes) v × (length (now bytes) ≤ maxBytes) × Arena g (now arena) ⌝ }
+pub fn measure(
+    bytes: &[u8],
+    v: Several,
+    arena: &[u8],
+    g: Settings,
+    when: Now,
+    seen: &[u64],
+) -> Measured
+    requires { ⌜ SeveralIn (now bytes) v × (length (now bytes) ≤ maxBytes) × Filtered g (now arena) (now seen) ⌝ }
     ensures { λ r. ⌜ ((rows : ℕ → Row) → Lent g (now (arena .entry)) rows → Measures (placesNow g rows (when .clock) (when .epoch) (now (bytes .entry)) v) r) × Bounded (v .keys) r ⌝ }
 {
     let mut k = v.args;
@@ -76,7 +85,7 @@ pub fn measure(bytes: &[u8], v: Several, arena: &[u8], g: Settings, when: Now) -
     while left > 0 {
         let here = planning_ask::next_key(bytes, k);
         let key = here.key;
-        m = measure_key(bytes, v, key, arena, g, when, m);
+        m = measure_key(bytes, v, key, arena, g, when, m, seen);
         k = here.rest;
         left -= 1;
     }

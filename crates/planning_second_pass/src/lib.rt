@@ -1,5 +1,6 @@
 // The second pass of planning: each command's keys are looked up and its nodes written as they are found (crate planning_nodes), and then what is sent for it, its
 // missing keys read from those nodes. That this is what the dry pass has measured is specs/Unseen.antt: a planning's lookups change no command's outcome.
+// `seen` is a filter of keys, as in planning_nodes.
 use config::Now;
 use config::Settings;
 use cursor::Commands;
@@ -12,6 +13,7 @@ ghost use Rattle.config.specs.Limits.{maxBytes};
 ghost use Rattle.cursor.specs.At.{commandOf, commandsOf};
 ghost use Rattle.book.specs.Book.{Row};
 ghost use Rattle.sharded_lru.specs.Lent.{setupNow, Lent, Arena};
+ghost use Rattle.key_filter.specs.Filter.{Filtered};
 ghost use Rattle.planning_outcome.specs.Sizes.{nodesFor, sentFor};
 ghost use Rattle.planning_dry_pass.specs.Dry as dry;
 ghost use Rattle.planning_second_pass.specs.Does.{One, Does, Room};
@@ -35,12 +37,13 @@ fn plan_command(
     g: Settings,
     when: Now,
     x: Progress,
+    seen: &[u64],
 ) -> Progress
-    requires { ⌜ dry.One g (when .clock) (now bytes) head × (length (now bytes) ≤ maxBytes) × Arena g (now arena) × ((rows : ℕ → Row) → Lent g (now arena) rows → x .to + length (nodesFor (setupNow g) rows (when .clock) (when .epoch) (ask g (when .clock)) (commandOf (now bytes) head)) ≤ length (now plan)) × ((rows : ℕ → Row) → Lent g (now arena) rows → x .from + length (sentFor (setupNow g) rows (when .clock) (when .epoch) (ask g (when .clock)) (g .mode) (commandOf (now bytes) head)) ≤ length (now send)) × (x .sent + 2 ^ 26 < 2 ^ 64) ⌝ }
+    requires { ⌜ dry.One g (when .clock) (now bytes) head × (length (now bytes) ≤ maxBytes) × Filtered g (now arena) (now seen) × ((rows : ℕ → Row) → Lent g (now arena) rows → x .to + length (nodesFor (setupNow g) rows (when .clock) (when .epoch) (ask g (when .clock)) (commandOf (now bytes) head)) ≤ length (now plan)) × ((rows : ℕ → Row) → Lent g (now arena) rows → x .from + length (sentFor (setupNow g) rows (when .clock) (when .epoch) (ask g (when .clock)) (g .mode) (commandOf (now bytes) head)) ≤ length (now send)) × (x .sent + 2 ^ 26 < 2 ^ 64) ⌝ }
     ensures { λ r. ⌜ One g (when .clock) (when .epoch) (commandOf (now (bytes .entry)) head) (now (arena .entry)) (now (plan .entry)) (now (send .entry)) x (now (arena .exit)) (now (plan .exit)) (now (send .exit)) r × (r .sent ≤ x .sent + 2 ^ 26) ⌝ }
 {
     let before = x.counts;
-    let p = planning_nodes::get_cached_cmd(plan, x.to, arena, bytes, head, g, when, before);
+    let p = planning_nodes::get_cached_cmd(plan, x.to, arena, bytes, head, g, when, before, seen);
     let result = p.result;
     let mode = g.mode;
     let places = Source::Nodes(p.places);
@@ -56,6 +59,52 @@ fn plan_command(
 }
 
 // All commands, in their order.
+fn plan_each(
+    arena: &mut [u8],
+    plan: &mut [u8],
+    send: &mut [u8],
+    bytes: &[u8],
+    k: Commands,
+    g: Settings,
+    when: Now,
+    x: Progress,
+    seen: &[u64],
+) -> Progress
+    requires { ⌜ dry.Planable g (when .clock) (now bytes) (k .left) (k .at) × (length (now bytes) ≤ maxBytes) × Filtered g (now arena) (now seen) × Room g (when .clock) (when .epoch) (commandsOf (now bytes) k) (now arena) (now plan) (now send) x × (x .sent + 2 ^ 26 * k .left < 2 ^ 63) ⌝ }
+    ensures { λ r. ⌜ Does g (when .clock) (when .epoch) (commandsOf (now (bytes .entry)) k) (now (arena .entry)) (now (plan .entry)) (now (send .entry)) x (now (arena .exit)) (now (plan .exit)) (now (send .exit)) r × (r .sent ≤ x .sent + 2 ^ 26 * k .left) ⌝ }
+{
+    let mut at = k.at;
+    let mut left = k.left;
+    let mut y = x;
+    while left > 0 {
+        let head = cursor::head_at(bytes, at);
+        y = plan_command(arena, plan, send, bytes, head, g, when, y, seen);
+        at = cursor::args_end(bytes, head.args);
+        left -= 1;
+    }
+    y
+}
+
+// The same with a filter that is made first, of as many words as the keys' bits need.
+fn plan_filtered(
+    arena: &mut [u8],
+    plan: &mut [u8],
+    send: &mut [u8],
+    bytes: &[u8],
+    k: Commands,
+    g: Settings,
+    when: Now,
+    x: Progress,
+) -> Progress
+    requires { ⌜ dry.Planable g (when .clock) (now bytes) (k .left) (k .at) × (length (now bytes) ≤ maxBytes) × Arena g (now arena) × Room g (when .clock) (when .epoch) (commandsOf (now bytes) k) (now arena) (now plan) (now send) x × (x .sent + 2 ^ 26 * k .left < 2 ^ 63) ⌝ }
+    ensures { λ r. ⌜ Does g (when .clock) (when .epoch) (commandsOf (now (bytes .entry)) k) (now (arena .entry)) (now (plan .entry)) (now (send .entry)) x (now (arena .exit)) (now (plan .exit)) (now (send .exit)) r × (r .sent ≤ x .sent + 2 ^ 26 * k .left) ⌝ }
+{
+    let mut seen = [0u64; 1024];
+    key_filter::fill(arena, g, &mut seen);
+    plan_each(arena, plan, send, bytes, k, g, when, x, &seen)
+}
+
+// All commands, in their order. A filter pays from some dozens of keys on.
 pub fn plan_commands(
     arena: &mut [u8],
     plan: &mut [u8],
@@ -69,14 +118,9 @@ pub fn plan_commands(
     requires { ⌜ dry.Planable g (when .clock) (now bytes) (k .left) (k .at) × (length (now bytes) ≤ maxBytes) × Arena g (now arena) × Room g (when .clock) (when .epoch) (commandsOf (now bytes) k) (now arena) (now plan) (now send) x × (x .sent + 2 ^ 26 * k .left < 2 ^ 63) ⌝ }
     ensures { λ r. ⌜ Does g (when .clock) (when .epoch) (commandsOf (now (bytes .entry)) k) (now (arena .entry)) (now (plan .entry)) (now (send .entry)) x (now (arena .exit)) (now (plan .exit)) (now (send .exit)) r × (r .sent ≤ x .sent + 2 ^ 26 * k .left) ⌝ }
 {
-    let mut at = k.at;
-    let mut left = k.left;
-    let mut y = x;
-    while left > 0 {
-        let head = cursor::head_at(bytes, at);
-        y = plan_command(arena, plan, send, bytes, head, g, when, y);
-        at = cursor::args_end(bytes, head.args);
-        left -= 1;
+    if bytes.len() < 2048 {
+        let none = [0u64; 0];
+        return plan_each(arena, plan, send, bytes, k, g, when, x, &none);
     }
-    y
+    plan_filtered(arena, plan, send, bytes, k, g, when, x)
 }

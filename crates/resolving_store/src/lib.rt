@@ -101,7 +101,7 @@ fn store_each(
     refused
 }
 
-// The same with a filter that is made first.
+// The same with a filter that is made first, of as many words as the keys' bits need.
 fn store_filtered(
     arena: &mut [u8],
     g: Settings,

@@ -11,11 +11,11 @@ bytes-in-requires c κs = search needs
 
 peek-requires : tie.Need-peek-requires
 unfolding KeyIn
-peek-requires c κs = (c .before .before .before .before .pre .2, c .before .before .before .before .pre .0)
+peek-requires c κs = (c .before .before .before .before .before .pre .2, c .before .before .before .before .before .pre .0)
 
 returns : tie.Need-returns
 returns c =
-    let a = c .before .before .before .before .before .args in
+    let a = c .before .before .before .before .before .before .args in
     λ rows o.
     whole-place (setupNow (a .g)) rows (a .when .clock) (a .when .epoch) (a .bytes .now) (a .arena .now) (a .head) (a .key) (c .peek .result)
     (rw (c .before .before .bytes-in .ensures) at (c .peek .ensures rows o))

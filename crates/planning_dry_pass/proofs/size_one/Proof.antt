@@ -18,19 +18,19 @@ peek-one-requires c κs = search needs
 enum-known-from : tie.Need-enum-known-from
 enum-known-from c = search needs
 
-sub-t15 : tie.Need-sub-t14
+sub-t15 : tie.Need-sub-t15
 sub-t15 c =
-    let q = c .before .before .before .before .before .before .before .pre .4 in
-    let a = c .before .before .before .before .before .before .before .args in
+    let q = c .before .before .before .before .before .before .before .before .pre .4 .arena in
+    let a = c .before .before .before .before .before .before .before .before .args in
     let w = wholeKey (commandOf (a .bytes .now) (a .head)) (rangeBytes (a .bytes .now) (a .key)) in
     let h = told-hit (a .arena .now) w (placeOn (setupNow (a .g)) (q .rows) (a .when .clock) (a .when .epoch) w)
     (c .before .before .before .peek-one .result) _ _ (c .before .from .given .1) (c .before .before .before .peek-one .ensures (q .rows) (q .lent)) in
     h .0
 
-add-t16 : tie.Need-add-t15
+add-t16 : tie.Need-add-t16
 add-t16 c =
-    let q = c .before .before .before .before .before .before .before .pre .4 in
-    let a = c .before .before .before .before .before .before .before .args in
+    let q = c .before .before .before .before .before .before .before .before .pre .4 .arena in
+    let a = c .before .before .before .before .before .before .before .before .args in
     let w = wholeKey (commandOf (a .bytes .now) (a .head)) (rangeBytes (a .bytes .now) (a .key)) in
     let h = told-hit (a .arena .now) w (placeOn (setupNow (a .g)) (q .rows) (a .when .clock) (a .when .epoch) w)
     (c .before .before .before .peek-one .result) _ _ (c .before .from .given .1) (c .before .before .before .peek-one .ensures (q .rows) (q .lent)) in
@@ -47,8 +47,8 @@ bytes-in-requires c κs = search needs
 missing-len-requires : tie.Need-missing-len-requires
 unfolding KeyIn
 missing-len-requires c κs =
-    let p = c .before .before .before .before .before .before .before .pre in
-    let s = range-short _ (c .before .before .before .before .before .before .before .args .key) _ (c .bytes-in .ensures) (p .3) in
+    let p = c .before .before .before .before .before .before .before .before .pre in
+    let s = range-short _ (c .before .before .before .before .before .before .before .before .args .key) _ (c .bytes-in .ensures) (p .3) in
     let m = p .1 in
     (p .0, omega arith, m)
 
@@ -58,12 +58,12 @@ opt-in-len-requires c κs = search needs
 single-len-requires : tie.Need-single-len-requires
 single-len-requires c κs = search needs
 
-add-t21 : tie.Need-add-t20
+add-t21 : tie.Need-add-t21
 add-t21 c = search needs
 
 returns : tie.Need-returns
 returns c =
-    let a = c .before .before .before .before .before .before .before .args in
+    let a = c .before .before .before .before .before .before .before .before .args in
     let w = wholeKey (commandOf (a .bytes .now) (a .head)) (rangeBytes (a .bytes .now) (a .key)) in
     λ rows o x.
     let h = told-hit (a .arena .now) w (placeOn (setupNow (a .g)) rows (a .when .clock) (a .when .epoch) w) (c .before .before .before .peek-one .result) _ _
@@ -72,7 +72,7 @@ returns c =
 
 returns-2 : tie.Need-returns-2
 returns-2 c =
-    let a = c .before .before .before .before .before .before .before .before .before .before .args in
+    let a = c .before .before .before .before .before .before .before .before .before .before .before .args in
     let w = wholeKey (commandOf (a .bytes .now) (a .head)) (rangeBytes (a .bytes .now) (a .key)) in
     λ rows o x.
     let e = told-miss (a .arena .now) w (placeOn (setupNow (a .g)) rows (a .when .clock) (a .when .epoch) w)

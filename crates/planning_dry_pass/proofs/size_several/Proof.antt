@@ -14,9 +14,9 @@ use Rattle.planning_dry_pass.proofs.size_several.Tie as tie
 measure-requires : tie.Need-measure-requires
 measure-requires c κs = search needs
 
-add-t11 : tie.Need-add-t10
+add-t11 : tie.Need-add-t11
 add-t11 c =
-    let p = c .before .before .before .before .before .before .pre in
+    let p = c .before .before .before .before .before .before .before .pre in
     let f = keys-few _ _ (p .0) in
     let l = p .1 in
     let b = c .before .before .before .measure .ensures .1 in
@@ -25,12 +25,12 @@ add-t11 c =
     let z = b .keys in
     omega arith
 
-mul-t12 : tie.Need-mul-t11
+mul-t12 : tie.Need-mul-t12
 mul-t12 c = search needs
 
-add-t13 : tie.Need-add-t12
+add-t13 : tie.Need-add-t13
 add-t13 c =
-    let p = c .before .before .before .before .before .before .pre in
+    let p = c .before .before .before .before .before .before .before .pre in
     let f = keys-few _ _ (p .0) in
     let l = p .1 in
     let b = c .before .before .before .measure .ensures .1 in
@@ -44,7 +44,7 @@ opt-in-len-requires c κs = search needs
 
 several-len-requires : tie.Need-several-len-requires
 several-len-requires c κs =
-    let p = c .before .before .before .before .before .before .before .pre in
+    let p = c .before .before .before .before .before .before .before .before .pre in
     let f = keys-few _ _ (p .0) in
     let l = p .1 in
     let b = c .before .before .before .before .measure .ensures .1 in
@@ -54,26 +54,26 @@ several-len-requires c κs =
     let e = c .before .before .if1 .left in
     (p .0, l, omega arith, record { number = omega arith; nodes = omega arith; keys = omega arith })
 
-add-t16 : tie.Need-add-t15
+add-t16 : tie.Need-add-t16
 add-t16 c = search needs
 
 returns : tie.Need-returns
 returns c =
-    let a = c .before .before .before .before .before .before .args in
+    let a = c .before .before .before .before .before .before .before .args in
     λ rows o d x.
     laws.size-served (a .g .mode) d (a .bytes .now) (a .v) _ x (c .before .before .before .measure .result)
     (c .before .before .before .measure .ensures .0 rows o) (c .before .if1 .taken)
 
 returns-2 : tie.Need-returns-2
 returns-2 c =
-    let p = c .before .before .before .before .before .before .before .before .pre in
+    let p = c .before .before .before .before .before .before .before .before .before .pre in
     let f = keys-few _ _ (p .0) in
     let l = p .1 in
     let b = c .before .before .before .before .before .measure .ensures .1 in
     let x = b .number in
     let y = b .nodes in
     let z = b .keys in
-    let a = c .before .before .before .before .before .before .before .before .args in
+    let a = c .before .before .before .before .before .before .before .before .before .args in
     let e = c .before .before .before .if1 .left in
     λ rows o d x.
     let m = c .before .before .before .before .before .measure .ensures .0 rows o in

@@ -11,7 +11,7 @@ bytes-in-requires : tie.Need-bytes-in-requires
 bytes-in-requires c κs = search needs
 
 get-requires : tie.Need-get-requires
-get-requires c κs = (c .before .before .before .before .pre .2, c .before .before .before .before .pre .1)
+get-requires c κs = (c .before .before .before .before .before .pre .2, c .before .before .before .before .before .pre .1)
 
 counted-requires : tie.Need-counted-requires
 counted-requires c κs = search needs
@@ -21,7 +21,7 @@ same-length c = search needs
 
 returns : tie.Need-returns
 returns c = λ w p q.
-    let a = c .before .before .before .before .before .before .before .before .args in
+    let a = c .before .before .before .before .before .before .before .before .before .args in
     let k = p ∙ sym (c .before .before .before .before .before .bytes-in .ensures) in
     record {
       looks =

@@ -15,18 +15,18 @@ use Rattle.planning_nodes.proofs.get_cached_cmd.Statement.{statement}
 use Rattle.planning_nodes.proofs.get_cached_cmd.Tie as tie
 
 ask-requires : tie.Need-ask-requires
-ask-requires c κs = let p = c .before .before .before .pre in (p .0, p .1)
+ask-requires c κs = let p = c .before .before .before .before .pre in (p .0, p .1)
 
 enum-told : tie.Need-enum-told
 enum-told c = search needs
 
 write-bare-requires : tie.Need-write-bare-requires
 write-bare-requires c κs =
-    let a = c .before .before .before .before .before .before .before .args in
-    let p = c .before .before .before .before .before .before .before .pre in
+    let a = c .before .before .before .before .before .before .before .before .args in
+    let p = c .before .before .before .before .before .before .before .before .pre in
     let w = subst (λ (r : Asked). (askedOf (a .bytes .now) r ≡ ask (a .g) (a .when .clock) (commandOf (a .bytes .now) (a .head))) × AskedIn (a .bytes .now) r)
     (c .before .enum-told .given .1) (c .before .before .before .ask .ensures) in
-    let q = p .3 in
+    let q = p .3 .arena in
     let rows = q .rows in
     room-is _ _ _ _ (ap nodesAs
     (places.outcome-nothing (setupNow (a .g)) rows (a .when .clock) (a .when .epoch) (ask (a .g) (a .when .clock)) (commandOf (a .bytes .now) (a .head)) (sym (w .0))) ∙ nodes-ignored)
@@ -37,11 +37,11 @@ enum-told-2 c = search needs
 
 write-bare-requires-2 : tie.Need-write-bare-requires-2
 write-bare-requires-2 c κs =
-    let a = c .before .before .before .before .before .before .before .args in
-    let p = c .before .before .before .before .before .before .before .pre in
+    let a = c .before .before .before .before .before .before .before .before .args in
+    let p = c .before .before .before .before .before .before .before .before .pre in
     let w = subst (λ (r : Asked). (askedOf (a .bytes .now) r ≡ ask (a .g) (a .when .clock) (commandOf (a .bytes .now) (a .head))) × AskedIn (a .bytes .now) r)
     (c .before .enum-told2 .given .1) (c .before .before .before .ask .ensures) in
-    let q = p .3 in
+    let q = p .3 .arena in
     let rows = q .rows in
     room-is _ _ _ _ (ap nodesAs
     (places.outcome-uncacheable (setupNow (a .g)) rows (a .when .clock) (a .when .epoch) (ask (a .g) (a .when .clock)) (commandOf (a .bytes .now) (a .head)) (sym (w .0)))
@@ -52,8 +52,8 @@ enum-known-key c = search needs
 
 write-one-requires : tie.Need-write-one-requires
 write-one-requires c κs =
-    let a = c .before .before .before .before .before .before .before .before .before .args in
-    let p = c .before .before .before .before .before .before .before .before .before .pre in
+    let a = c .before .before .before .before .before .before .before .before .before .before .args in
+    let p = c .before .before .before .before .before .before .before .before .before .before .pre in
     let w = subst (λ (r : Asked). (askedOf (a .bytes .now) r ≡ ask (a .g) (a .when .clock) (commandOf (a .bytes .now) (a .head))) × AskedIn (a .bytes .now) r)
     (c .before .before .before .key .given .1) (c .before .before .before .before .before .ask .ensures) in (
       p .0,
@@ -70,8 +70,8 @@ enum-known-v c = search needs
 
 write-several-requires : tie.Need-write-several-requires
 write-several-requires c κs =
-    let a = c .before .before .before .before .before .before .before .before .before .args in
-    let p = c .before .before .before .before .before .before .before .before .before .pre in
+    let a = c .before .before .before .before .before .before .before .before .before .before .args in
+    let p = c .before .before .before .before .before .before .before .before .before .before .pre in
     let w = subst (λ (r : Asked). (askedOf (a .bytes .now) r ≡ ask (a .g) (a .when .clock) (commandOf (a .bytes .now) (a .head))) × AskedIn (a .bytes .now) r)
     (c .before .before .before .v .given .1) (c .before .before .before .before .before .ask .ensures) in (
       w .1,
@@ -87,8 +87,8 @@ same-length c = search needs
 
 returns : tie.Need-returns
 returns c =
-    let a = c .before .before .before .before .before .before .before .before .before .before .args in
-    let p = c .before .before .before .before .before .before .before .before .before .before .pre in
+    let a = c .before .before .before .before .before .before .before .before .before .before .before .args in
+    let p = c .before .before .before .before .before .before .before .before .before .before .before .pre in
     let w = subst (λ (r : Asked). (askedOf (a .bytes .now) r ≡ ask (a .g) (a .when .clock) (commandOf (a .bytes .now) (a .head))) × AskedIn (a .bytes .now) r)
     (c .before .before .before .before .enum-told .given .1) (c .before .before .before .before .before .before .ask .ensures) in
     let d = commandOf (a .bytes .now) (a .head) in (
@@ -104,8 +104,8 @@ same-length-2 c = search needs
 
 returns-2 : tie.Need-returns-2
 returns-2 c =
-    let a = c .before .before .before .before .before .before .before .before .before .before .args in
-    let p = c .before .before .before .before .before .before .before .before .before .before .pre in
+    let a = c .before .before .before .before .before .before .before .before .before .before .before .args in
+    let p = c .before .before .before .before .before .before .before .before .before .before .before .pre in
     let w = subst (λ (r : Asked). (askedOf (a .bytes .now) r ≡ ask (a .g) (a .when .clock) (commandOf (a .bytes .now) (a .head))) × AskedIn (a .bytes .now) r)
     (c .before .before .before .before .enum-told2 .given .1) (c .before .before .before .before .before .before .ask .ensures) in
     let d = commandOf (a .bytes .now) (a .head) in (
@@ -124,8 +124,8 @@ same-length-4 c = search needs
 
 returns-3 : tie.Need-returns-3
 returns-3 c =
-    let a = c .before .before .before .before .before .before .before .before .before .before .before .before .before .before .args in
-    let p = c .before .before .before .before .before .before .before .before .before .before .before .before .before .before .pre in
+    let a = c .before .before .before .before .before .before .before .before .before .before .before .before .before .before .before .args in
+    let p = c .before .before .before .before .before .before .before .before .before .before .before .before .before .before .before .pre in
     let w = subst (λ (r : Asked). (askedOf (a .bytes .now) r ≡ ask (a .g) (a .when .clock) (commandOf (a .bytes .now) (a .head))) × AskedIn (a .bytes .now) r)
     (c .before .before .before .before .before .before .before .before .key .given .1)
     (c .before .before .before .before .before .before .before .before .before .before .ask .ensures) in
@@ -145,8 +145,8 @@ same-length-6 c = search needs
 
 returns-4 : tie.Need-returns-4
 returns-4 c =
-    let a = c .before .before .before .before .before .before .before .before .before .before .before .before .before .before .args in
-    let p = c .before .before .before .before .before .before .before .before .before .before .before .before .before .before .pre in
+    let a = c .before .before .before .before .before .before .before .before .before .before .before .before .before .before .before .args in
+    let p = c .before .before .before .before .before .before .before .before .before .before .before .before .before .before .before .pre in
     let w = subst (λ (r : Asked). (askedOf (a .bytes .now) r ≡ ask (a .g) (a .when .clock) (commandOf (a .bytes .now) (a .head))) × AskedIn (a .bytes .now) r)
     (c .before .before .before .before .before .before .before .before .v .given .1)
     (c .before .before .before .before .before .before .before .before .before .before .ask .ensures) in

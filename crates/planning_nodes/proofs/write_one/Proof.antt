@@ -17,7 +17,7 @@ use Rattle.planning_nodes.proofs.write_one.Tie as tie
 look-up-key-requires : tie.Need-look-up-key-requires
 unfolding KeyIn
 look-up-key-requires c κs =
-    let p = c .before .before .before .before .before .pre in
+    let p = c .before .before .before .before .before .before .pre in
     (p .1, p .0, p .3)
 
 enum-known-looked : tie.Need-enum-known-looked
@@ -25,44 +25,44 @@ enum-known-looked c = search needs
 
 sub-write-served : tie.Need-sub-write-served
 sub-write-served c =
-    let a = c .before .before .before .before .before .before .before .before .before .before .before .before .before .args in
-    let p = c .before .before .before .before .before .before .before .before .before .before .before .before .before .pre in
+    let a = c .before .before .before .before .before .before .before .before .before .before .before .before .before .before .args in
+    let p = c .before .before .before .before .before .before .before .before .before .before .before .before .before .before .pre in
     let f = c .before .before .before .before .before .before .before .look-up-key .ensures
     (wholeKey (commandOf (a .bytes .now) (a .head)) (rangeBytes (a .bytes .now) (a .key))) (laws.whole-is (a .bytes .now) (a .head) (a .key))
     (whole-key (a .bytes .now) (a .head) (rangeBytes (a .bytes .now) (a .key))) in
-    let h = found-hit _ _ _ _ _ _ _ _ f (p .3) _ _ (c .before .before .looked .given .1) in
+    let h = found-hit _ _ _ _ _ _ _ _ f (p .3 .arena) _ _ (c .before .before .looked .given .1) in
     h .order
 
 part-write-served-start : tie.Need-part-write-served-start
 part-write-served-start c =
-    let a = c .before .before .before .before .before .before .before .before .before .before .before .before .before .before .args in
-    let p = c .before .before .before .before .before .before .before .before .before .before .before .before .before .before .pre in
+    let a = c .before .before .before .before .before .before .before .before .before .before .before .before .before .before .before .args in
+    let p = c .before .before .before .before .before .before .before .before .before .before .before .before .before .before .before .pre in
     let f = c .before .before .before .before .before .before .before .before .look-up-key .ensures
     (wholeKey (commandOf (a .bytes .now) (a .head)) (rangeBytes (a .bytes .now) (a .key))) (laws.whole-is (a .bytes .now) (a .head) (a .key))
     (whole-key (a .bytes .now) (a .head) (rangeBytes (a .bytes .now) (a .key))) in
-    let h = found-hit _ _ _ _ _ _ _ _ f (p .3) _ _ (c .before .before .before .looked .given .1) in
+    let h = found-hit _ _ _ _ _ _ _ _ f (p .3 .arena) _ _ (c .before .before .before .looked .given .1) in
     h .order
 
 part-write-served-end : tie.Need-part-write-served-end
 part-write-served-end c =
-    let a = c .before .before .before .before .before .before .before .before .before .before .before .before .before .before .args in
-    let p = c .before .before .before .before .before .before .before .before .before .before .before .before .before .before .pre in
+    let a = c .before .before .before .before .before .before .before .before .before .before .before .before .before .before .before .args in
+    let p = c .before .before .before .before .before .before .before .before .before .before .before .before .before .before .before .pre in
     let f = c .before .before .before .before .before .before .before .before .look-up-key .ensures
     (wholeKey (commandOf (a .bytes .now) (a .head)) (rangeBytes (a .bytes .now) (a .key))) (laws.whole-is (a .bytes .now) (a .head) (a .key))
     (whole-key (a .bytes .now) (a .head) (rangeBytes (a .bytes .now) (a .key))) in
-    let h = found-hit _ _ _ _ _ _ _ _ f (p .3) _ _ (c .before .before .before .looked .given .1) in
+    let h = found-hit _ _ _ _ _ _ _ _ f (p .3 .arena) _ _ (c .before .before .before .looked .given .1) in
     h .inside
 
 write-served-requires : tie.Need-write-served-requires
 unfolding part
 write-served-requires c κs =
-    let a = c .before .before .before .before .before .before .before .before .before .before .before .before .before .before .before .args in
-    let p = c .before .before .before .before .before .before .before .before .before .before .before .before .before .before .before .pre in
+    let a = c .before .before .before .before .before .before .before .before .before .before .before .before .before .before .before .before .args in
+    let p = c .before .before .before .before .before .before .before .before .before .before .before .before .before .before .before .before .pre in
     let f = c .before .before .before .before .before .before .before .before .before .look-up-key .ensures
     (wholeKey (commandOf (a .bytes .now) (a .head)) (rangeBytes (a .bytes .now) (a .key))) (laws.whole-is (a .bytes .now) (a .head) (a .key))
     (whole-key (a .bytes .now) (a .head) (rangeBytes (a .bytes .now) (a .key))) in
-    let h = found-hit _ _ _ _ _ _ _ _ f (p .3) _ _ (c .before .before .before .before .looked .given .1) in
-    let r = p .3 in (
+    let h = found-hit _ _ _ _ _ _ _ _ f (p .3 .arena) _ _ (c .before .before .before .before .looked .given .1) in
+    let r = p .3 .arena in (
       room-is _ _ _ _ (laws.one-filled (a .g) (r .rows) (a .when .clock) (a .when .epoch) (a .expiry) (a .bytes .now) (a .head) (a .key) _ (h .is (r .rows) (r .lent)))
           (p .4 (r .rows) (r .lent)),
       h .short,
@@ -77,12 +77,12 @@ bytes-in-requires c κs = search needs
 write-missing-requires : tie.Need-write-missing-requires
 unfolding KeyIn
 write-missing-requires c κs =
-    let a = c .before .before .before .before .before .before .before .before .before .before .before .before .before .args in
-    let p = c .before .before .before .before .before .before .before .before .before .before .before .before .before .pre in
+    let a = c .before .before .before .before .before .before .before .before .before .before .before .before .before .before .args in
+    let p = c .before .before .before .before .before .before .before .before .before .before .before .before .before .before .pre in
     let f = c .before .before .before .before .before .before .before .look-up-key .ensures
     (wholeKey (commandOf (a .bytes .now) (a .head)) (rangeBytes (a .bytes .now) (a .key))) (laws.whole-is (a .bytes .now) (a .head) (a .key))
     (whole-key (a .bytes .now) (a .head) (rangeBytes (a .bytes .now) (a .key))) in
-    let r = p .3 in
+    let r = p .3 .arena in
     let q = found-miss _ _ _ _ _ _ _ _ f _ (c .before .before .enum-told .given .1) (r .rows) (r .lent) in
     let b = range-short (a .bytes .now) (a .key) _ (c .before .bytes-in .ensures) (p .1) in
     let m = p .2 in (
@@ -103,12 +103,12 @@ same-length-2 c = search needs
 returns : tie.Need-returns
 unfolding part
 returns c =
-    let a = c .before .before .before .before .before .before .before .before .before .before .before .before .before .before .before .before .before .before .args in
-    let p = c .before .before .before .before .before .before .before .before .before .before .before .before .before .before .before .before .before .before .pre in
+    let a = c .before .before .before .before .before .before .before .before .before .before .before .before .before .before .before .before .before .before .before .args in
+    let p = c .before .before .before .before .before .before .before .before .before .before .before .before .before .before .before .before .before .before .before .pre in
     let f = c .before .before .before .before .before .before .before .before .before .before .before .before .look-up-key .ensures
     (wholeKey (commandOf (a .bytes .now) (a .head)) (rangeBytes (a .bytes .now) (a .key))) (laws.whole-is (a .bytes .now) (a .head) (a .key))
     (whole-key (a .bytes .now) (a .head) (rangeBytes (a .bytes .now) (a .key))) in
-    let h = found-hit _ _ _ _ _ _ _ _ f (p .3) _ _ (c .before .before .before .before .before .before .before .looked .given .1) in (
+    let h = found-hit _ _ _ _ _ _ _ _ f (p .3 .arena) _ _ (c .before .before .before .before .before .before .before .looked .given .1) in (
       f .looks,
       λ rows o.
           laws.prepares-hit (a .g) rows (a .when .clock) (a .when .epoch) (a .expiry) (a .bytes .now) (a .head) (a .key) _ _ (a .to) _ _ _ _ _ (h .order) (h .inside)
@@ -123,8 +123,8 @@ same-length-4 c = search needs
 
 returns-2 : tie.Need-returns-2
 returns-2 c =
-    let a = c .before .before .before .before .before .before .before .before .before .before .before .before .before .before .before .before .args in
-    let p = c .before .before .before .before .before .before .before .before .before .before .before .before .before .before .before .before .pre in
+    let a = c .before .before .before .before .before .before .before .before .before .before .before .before .before .before .before .before .before .args in
+    let p = c .before .before .before .before .before .before .before .before .before .before .before .before .before .before .before .before .before .pre in
     let f = c .before .before .before .before .before .before .before .before .before .before .look-up-key .ensures
     (wholeKey (commandOf (a .bytes .now) (a .head)) (rangeBytes (a .bytes .now) (a .key))) (laws.whole-is (a .bytes .now) (a .head) (a .key))
     (whole-key (a .bytes .now) (a .head) (rangeBytes (a .bytes .now) (a .key))) in (

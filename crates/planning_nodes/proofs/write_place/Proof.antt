@@ -13,47 +13,47 @@ use Rattle.planning_nodes.proofs.write_place.Statement.{statement}
 use Rattle.planning_nodes.proofs.write_place.Tie as tie
 
 look-up-key-requires : tie.Need-look-up-key-requires
-look-up-key-requires c κs = let p = c .before .before .before .before .before .before .pre in (p .1, part-in _ _ _ (p .0) (p .1) (p .2), p .3)
+look-up-key-requires c κs = let p = c .before .before .before .before .before .before .before .pre in (p .1, part-in _ _ _ (p .0) (p .1) (p .2), p .3)
 
 enum-known-looked : tie.Need-enum-known-looked
 enum-known-looked c = search needs
 
 sub-write-served : tie.Need-sub-write-served
 sub-write-served c =
-    let a = c .before .before .before .before .before .before .before .before .before .before .before .before .before .before .args in
-    let p = c .before .before .before .before .before .before .before .before .before .before .before .before .before .before .pre in
+    let a = c .before .before .before .before .before .before .before .before .before .before .before .before .before .before .before .args in
+    let p = c .before .before .before .before .before .before .before .before .before .before .before .before .before .before .before .pre in
     let f = c .before .before .before .before .before .before .before .look-up-key .ensures (wantAt (a .bytes .now) (a .v) (a .key))
     (laws.want-key (a .bytes .now) (a .v) (a .key)) (part-key (a .bytes .now) (a .v) (a .key) (p .0)) in
-    let h = laws.found-hit _ _ _ _ _ _ _ _ f (p .3) _ _ (c .before .before .looked .given .1) in
+    let h = laws.found-hit _ _ _ _ _ _ _ _ f (p .3 .arena) _ _ (c .before .before .looked .given .1) in
     h .order
 
 part-write-served-start : tie.Need-part-write-served-start
 part-write-served-start c =
-    let a = c .before .before .before .before .before .before .before .before .before .before .before .before .before .before .before .args in
-    let p = c .before .before .before .before .before .before .before .before .before .before .before .before .before .before .before .pre in
+    let a = c .before .before .before .before .before .before .before .before .before .before .before .before .before .before .before .before .args in
+    let p = c .before .before .before .before .before .before .before .before .before .before .before .before .before .before .before .before .pre in
     let f = c .before .before .before .before .before .before .before .before .look-up-key .ensures (wantAt (a .bytes .now) (a .v) (a .key))
     (laws.want-key (a .bytes .now) (a .v) (a .key)) (part-key (a .bytes .now) (a .v) (a .key) (p .0)) in
-    let h = laws.found-hit _ _ _ _ _ _ _ _ f (p .3) _ _ (c .before .before .before .looked .given .1) in
+    let h = laws.found-hit _ _ _ _ _ _ _ _ f (p .3 .arena) _ _ (c .before .before .before .looked .given .1) in
     h .order
 
 part-write-served-end : tie.Need-part-write-served-end
 part-write-served-end c =
-    let a = c .before .before .before .before .before .before .before .before .before .before .before .before .before .before .before .args in
-    let p = c .before .before .before .before .before .before .before .before .before .before .before .before .before .before .before .pre in
+    let a = c .before .before .before .before .before .before .before .before .before .before .before .before .before .before .before .before .args in
+    let p = c .before .before .before .before .before .before .before .before .before .before .before .before .before .before .before .before .pre in
     let f = c .before .before .before .before .before .before .before .before .look-up-key .ensures (wantAt (a .bytes .now) (a .v) (a .key))
     (laws.want-key (a .bytes .now) (a .v) (a .key)) (part-key (a .bytes .now) (a .v) (a .key) (p .0)) in
-    let h = laws.found-hit _ _ _ _ _ _ _ _ f (p .3) _ _ (c .before .before .before .looked .given .1) in
+    let h = laws.found-hit _ _ _ _ _ _ _ _ f (p .3 .arena) _ _ (c .before .before .before .looked .given .1) in
     h .inside
 
 write-served-requires : tie.Need-write-served-requires
 unfolding part
 write-served-requires c κs =
-    let a = c .before .before .before .before .before .before .before .before .before .before .before .before .before .before .before .before .args in
-    let p = c .before .before .before .before .before .before .before .before .before .before .before .before .before .before .before .before .pre in
+    let a = c .before .before .before .before .before .before .before .before .before .before .before .before .before .before .before .before .before .args in
+    let p = c .before .before .before .before .before .before .before .before .before .before .before .before .before .before .before .before .before .pre in
     let f = c .before .before .before .before .before .before .before .before .before .look-up-key .ensures (wantAt (a .bytes .now) (a .v) (a .key))
     (laws.want-key (a .bytes .now) (a .v) (a .key)) (part-key (a .bytes .now) (a .v) (a .key) (p .0)) in
-    let h = laws.found-hit _ _ _ _ _ _ _ _ f (p .3) _ _ (c .before .before .before .before .looked .given .1) in
-    let r = p .3 in
+    let h = laws.found-hit _ _ _ _ _ _ _ _ f (p .3 .arena) _ _ (c .before .before .before .before .looked .given .1) in
+    let r = p .3 .arena in
     (room-is _ _ _ _ (laws.node-filled _ _ _ (h .is (r .rows) (r .lent))) (p .4 (r .rows) (r .lent)), h .short)
 
 enum-told : tie.Need-enum-told
@@ -64,11 +64,11 @@ bytes-in-requires c κs = search needs
 
 write-missing-requires : tie.Need-write-missing-requires
 write-missing-requires c κs =
-    let a = c .before .before .before .before .before .before .before .before .before .before .before .before .before .before .args in
-    let p = c .before .before .before .before .before .before .before .before .before .before .before .before .before .before .pre in
+    let a = c .before .before .before .before .before .before .before .before .before .before .before .before .before .before .before .args in
+    let p = c .before .before .before .before .before .before .before .before .before .before .before .before .before .before .before .pre in
     let f = c .before .before .before .before .before .before .before .look-up-key .ensures (wantAt (a .bytes .now) (a .v) (a .key))
     (laws.want-key (a .bytes .now) (a .v) (a .key)) (part-key (a .bytes .now) (a .v) (a .key) (p .0)) in
-    let r = p .3 in
+    let r = p .3 .arena in
     let q = laws.found-miss _ _ _ _ _ _ _ _ f _ (c .before .before .enum-told .given .1) (r .rows) (r .lent) in
     let b = range-short (a .bytes .now) (a .key) _ (c .before .bytes-in .ensures) (p .1) in
     let m = p .2 in (
@@ -79,9 +79,9 @@ write-missing-requires c κs =
           (part-key (a .bytes .now) (a .v) (a .key) (p .0))) (p .4 (r .rows) (r .lent)),
     )
 
-add-t33 : tie.Need-add-t32
+add-t33 : tie.Need-add-t33
 add-t33 c =
-    let p = c .before .before .before .before .before .before .before .before .before .before .before .before .before .before .before .before .before .before .pre .5 in
+    let p = c .before .before .before .before .before .before .before .before .before .before .before .before .before .before .before .before .before .before .before .pre .5 in
     omega arith
 
 same-length : tie.Need-same-length
@@ -93,11 +93,11 @@ same-length-2 c = search needs
 returns : tie.Need-returns
 unfolding part
 returns c =
-    let a = c .before .before .before .before .before .before .before .before .before .before .before .before .before .before .before .before .before .before .before .args in
-    let p = c .before .before .before .before .before .before .before .before .before .before .before .before .before .before .before .before .before .before .before .pre in
+    let a = c .before .before .before .before .before .before .before .before .before .before .before .before .before .before .before .before .before .before .before .before .args in
+    let p = c .before .before .before .before .before .before .before .before .before .before .before .before .before .before .before .before .before .before .before .before .pre in
     let f = c .before .before .before .before .before .before .before .before .before .before .before .before .look-up-key .ensures
     (wantAt (a .bytes .now) (a .v) (a .key)) (laws.want-key (a .bytes .now) (a .v) (a .key)) (part-key (a .bytes .now) (a .v) (a .key) (p .0)) in
-    let h = laws.found-hit _ _ _ _ _ _ _ _ f (p .3) _ _ (c .before .before .before .before .before .before .before .looked .given .1) in
+    let h = laws.found-hit _ _ _ _ _ _ _ _ f (p .3 .arena) _ _ (c .before .before .before .before .before .before .before .looked .given .1) in
     laws.placed-hit _ _ _ _ _ _ _ _ _ _ _ f _ _ _ h (c .before .before .write-served .ensures)
 
 same-length-3 : tie.Need-same-length-3
@@ -108,8 +108,8 @@ same-length-4 c = search needs
 
 returns-2 : tie.Need-returns-2
 returns-2 c =
-    let a = c .before .before .before .before .before .before .before .before .before .before .before .before .before .before .before .before .before .before .args in
-    let p = c .before .before .before .before .before .before .before .before .before .before .before .before .before .before .before .before .before .before .pre in
+    let a = c .before .before .before .before .before .before .before .before .before .before .before .before .before .before .before .before .before .before .before .args in
+    let p = c .before .before .before .before .before .before .before .before .before .before .before .before .before .before .before .before .before .before .before .pre in
     let f = c .before .before .before .before .before .before .before .before .before .before .before .look-up-key .ensures
     (wantAt (a .bytes .now) (a .v) (a .key)) (laws.want-key (a .bytes .now) (a .v) (a .key)) (part-key (a .bytes .now) (a .v) (a .key) (p .0)) in
     laws.placed-miss _ _ _ _ _ _ _ _ _ _ _ f _ _ _ _ (c .before .before .before .before .before .before .enum-told .given .1)

@@ -12,9 +12,9 @@ use Rattle.planning_nodes.proofs.write_several.Tie as tie
 
 add-start : tie.Need-add-start
 add-start c =
-    let a = c .before .before .before .args in
-    let p = c .before .before .before .pre in
-    let q = p .2 in
+    let a = c .before .before .before .before .args in
+    let p = c .before .before .before .before .pre in
+    let q = p .2 .arena in
     let b = laws.several-least (a .expiry) (placesNow (a .g) (q .rows) (a .when .clock) (a .when .epoch) (a .bytes .now) (a .v)) (severalName (a .v .json))
     (pathIn (a .bytes .now) (a .v)) in
     let r = p .3 (q .rows) (q .lent) in
@@ -22,8 +22,8 @@ add-start c =
 
 write-places-requires : tie.Need-write-places-requires
 write-places-requires c κs =
-    let a = c .before .before .before .before .before .args in
-    let p = c .before .before .before .before .before .pre in (
+    let a = c .before .before .before .before .before .before .args in
+    let p = c .before .before .before .before .before .before .pre in (
       p .0,
       p .1,
       p .2,
@@ -37,9 +37,9 @@ write-places-requires c κs =
 
 write-bare-requires : tie.Need-write-bare-requires
 write-bare-requires c κs =
-    let a = c .before .before .before .before .before .before .before .before .before .before .before .before .before .before .args in
-    let p = c .before .before .before .before .before .before .before .before .before .before .before .before .before .before .pre in
-    let q = p .2 in
+    let a = c .before .before .before .before .before .before .before .before .before .before .before .before .before .before .before .args in
+    let p = c .before .before .before .before .before .before .before .before .before .before .before .before .before .before .before .pre in
+    let q = p .2 .arena in
     let b = laws.several-least (a .expiry) (placesNow (a .g) (q .rows) (a .when .clock) (a .when .epoch) (a .bytes .now) (a .v)) (severalName (a .v .json))
     (pathIn (a .bytes .now) (a .v)) in
     let r = p .3 (q .rows) (q .lent) in
@@ -49,9 +49,9 @@ write-bare-requires c κs =
 
 write-bare-requires-2 : tie.Need-write-bare-requires-2
 write-bare-requires-2 c κs =
-    let a = c .before .before .before .before .before .before .before .before .before .before .before .before .before .before .args in
-    let p = c .before .before .before .before .before .before .before .before .before .before .before .before .before .before .pre in
-    let q = p .2 in
+    let a = c .before .before .before .before .before .before .before .before .before .before .before .before .before .before .before .args in
+    let p = c .before .before .before .before .before .before .before .before .before .before .before .before .before .before .before .pre in
+    let q = p .2 .arena in
     let b = laws.several-least (a .expiry) (placesNow (a .g) (q .rows) (a .when .clock) (a .when .epoch) (a .bytes .now) (a .v)) (severalName (a .v .json))
     (pathIn (a .bytes .now) (a .v)) in
     let r = p .3 (q .rows) (q .lent) in
@@ -61,10 +61,10 @@ write-bare-requires-2 c κs =
 
 write-bare-requires-3 : tie.Need-write-bare-requires-3
 write-bare-requires-3 c κs =
-    let a = c .before .before .before .before .before .before .before .before .before .before .before .before .before .before .before .before .before .before .args in
-    let p = c .before .before .before .before .before .before .before .before .before .before .before .before .before .before .before .before .before .before .pre in
+    let a = c .before .before .before .before .before .before .before .before .before .before .before .before .before .before .before .before .before .before .before .args in
+    let p = c .before .before .before .before .before .before .before .before .before .before .before .before .before .before .before .before .before .before .before .pre in
     let y = c .before .before .before .before .before .before .before .before .before .before .before .before .write-places .ensures in
-    let q = p .2 in
+    let q = p .2 .arena in
     let rows = q .rows in
     let o = q .lent in
     let m = y .number rows o in
@@ -80,8 +80,8 @@ same-length-2 c = search needs
 
 returns : tie.Need-returns
 returns c =
-    let a = c .before .before .before .before .before .before .before .before .before .before .before .before .before .before .before .before .before .args in
-    let p = c .before .before .before .before .before .before .before .before .before .before .before .before .before .before .before .before .before .pre in
+    let a = c .before .before .before .before .before .before .before .before .before .before .before .before .before .before .before .before .before .before .args in
+    let p = c .before .before .before .before .before .before .before .before .before .before .before .before .before .before .before .before .before .before .pre in
     let y = c .before .before .before .before .before .before .before .before .before .before .before .write-places .ensures in (
       y .looks,
       λ rows o d.
@@ -98,8 +98,8 @@ same-length-4 c = search needs
 
 returns-2 : tie.Need-returns-2
 returns-2 c =
-    let a = c .before .before .before .before .before .before .before .before .before .before .before .before .before .before .before .before .before .before .before .before .before .args in
-    let p = c .before .before .before .before .before .before .before .before .before .before .before .before .before .before .before .before .before .before .before .before .before .pre in
+    let a = c .before .before .before .before .before .before .before .before .before .before .before .before .before .before .before .before .before .before .before .before .before .before .args in
+    let p = c .before .before .before .before .before .before .before .before .before .before .before .before .before .before .before .before .before .before .before .before .before .before .pre in
     let y = c .before .before .before .before .before .before .before .before .before .before .before .before .before .before .before .write-places .ensures in (
       y .looks,
       λ rows o d.
@@ -107,7 +107,7 @@ returns-2 c =
           laws.prepares-missing (a .g) rows (a .when .clock) (a .when .epoch) (a .expiry) (a .bytes .now) (a .v) (p .0) _ _ _ _ (a .to) _ _ _ (p .3 rows o)
           (y .wrote rows o) (omega arith) (c .before .before .before .before .before .before .before .before .if1 .left)
           (c .before .before .before .before .before .before .write-bare2 .ensures .1) d _ _ (c .before .before .write-bare3 .ensures)
-          (c .before .before .before .before .before .before .before .before .before .before .before .before .before .before .before .before .before .before .before .before .before .fits .expiry .fits)
+          (c .before .before .before .before .before .before .before .before .before .before .before .before .before .before .before .before .before .before .before .before .before .before .fits .expiry .fits)
           (y .fits rows o),
     )
 

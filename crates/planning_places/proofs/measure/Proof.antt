@@ -8,20 +8,20 @@ use Rattle.planning_places.proofs.measure.Statement.{statement}
 use Rattle.planning_places.proofs.measure.Tie as tie
 
 abbrev Inv-loop : tie.InvT-loop
-Inv-loop bytes v arena g when k₀ left₀ m₀ k left m = laws.Measuring g arena bytes v (when .clock) (when .epoch) k₀ left₀ k left m
+Inv-loop bytes v arena g when seen k₀ left₀ m₀ k left m = laws.Measuring g arena bytes v (when .clock) (when .epoch) k₀ left₀ k left m
 
 abbrev μ-loop : tie.MeasureT-loop
-μ-loop bytes v arena g when k₀ left₀ m₀ k left m = left
+μ-loop bytes v arena g when seen k₀ left₀ m₀ k left m = left
 
 loop-holds : tie.Need-loop-holds Inv-loop μ-loop
-loop-holds c = laws.measuring-start _ _ _ _ _ _ (c .before .before .before .pre .0)
+loop-holds c = laws.measuring-start _ _ _ _ _ _ (c .before .before .before .before .pre .0)
 
 next-key-requires : tie.Need-next-key-requires Inv-loop μ-loop
 next-key-requires c κs = let w = c .before .loop .inv in let x = w .enough in (w .here, omega arith)
 
 measure-key-requires : tie.Need-measure-key-requires Inv-loop μ-loop
 measure-key-requires c κs =
-    let p = c .before .before .before .before .before .before .before .pre in
+    let p = c .before .before .before .before .before .before .before .before .pre in
     let w = c .before .before .before .loop .inv .bound in
     let x = w .0 in
     let y = w .1 in

@@ -15,19 +15,19 @@ peek-key-requires c κs = search needs
 enum-known-from : tie.Need-enum-known-from
 enum-known-from c = search needs
 
-sub-t16 : tie.Need-sub-t15
+sub-t16 : tie.Need-sub-t16
 sub-t16 c =
-    let r = c .before .before .before .before .before .before .before .pre .3 in
-    let a = c .before .before .before .before .before .before .before .args in
+    let r = c .before .before .before .before .before .before .before .before .pre .3 .arena in
+    let a = c .before .before .before .before .before .before .before .before .args in
     let h = told-hit (a .arena .now) (wantAt (a .bytes .now) (a .v) (a .key))
     (placeAt (a .g) (r .rows) (a .when .clock) (a .when .epoch) (a .bytes .now) (a .v) (a .key)) (c .before .before .before .peek-key .result) _ _
     (c .before .from .given .1) (c .before .before .before .peek-key .ensures (r .rows) (r .lent)) in
     h .0
 
-add-t17 : tie.Need-add-t16
+add-t17 : tie.Need-add-t17
 add-t17 c =
-    let r = c .before .before .before .before .before .before .before .pre .3 in
-    let a = c .before .before .before .before .before .before .before .args in
+    let r = c .before .before .before .before .before .before .before .before .pre .3 .arena in
+    let a = c .before .before .before .before .before .before .before .before .args in
     let h = told-hit (a .arena .now) (wantAt (a .bytes .now) (a .v) (a .key))
     (placeAt (a .g) (r .rows) (a .when .clock) (a .when .epoch) (a .bytes .now) (a .v) (a .key)) (c .before .before .before .peek-key .result) _ _
     (c .before .from .given .1) (c .before .before .before .peek-key .ensures (r .rows) (r .lent)) in
@@ -35,16 +35,16 @@ add-t17 c =
     let m = r .lent .largest in
     omega arith
 
-add-t18 : tie.Need-add-t17
+add-t18 : tie.Need-add-t18
 add-t18 c =
-    let r = c .before .before .before .before .before .before .before .before .pre .3 in
-    let a = c .before .before .before .before .before .before .before .before .args in
+    let r = c .before .before .before .before .before .before .before .before .before .pre .3 .arena in
+    let a = c .before .before .before .before .before .before .before .before .before .args in
     let h = told-hit (a .arena .now) (wantAt (a .bytes .now) (a .v) (a .key))
     (placeAt (a .g) (r .rows) (a .when .clock) (a .when .epoch) (a .bytes .now) (a .v) (a .key)) (c .before .before .before .before .peek-key .result) _ _
     (c .before .before .from .given .1) (c .before .before .before .before .peek-key .ensures (r .rows) (r .lent)) in
     let e = h .1 in
     let m = r .lent .largest in
-    let b = c .before .before .before .before .before .before .before .before .pre .4 .nodes in
+    let b = c .before .before .before .before .before .before .before .before .before .pre .4 .nodes in
     omega arith
 
 enum-told : tie.Need-enum-told
@@ -53,21 +53,21 @@ enum-told c = search needs
 bytes-in-requires : tie.Need-bytes-in-requires
 bytes-in-requires c κs = search needs
 
-add-t19 : tie.Need-add-t18
-add-t19 c = let b = c .before .before .before .before .before .before .before .before .pre .4 .number in omega arith
+add-t19 : tie.Need-add-t19
+add-t19 c = let b = c .before .before .before .before .before .before .before .before .before .pre .4 .number in omega arith
 
 missing-len-requires : tie.Need-missing-len-requires
 missing-len-requires c κs =
-    let p = c .before .before .before .before .before .before .before .before .pre in
-    let a = c .before .before .before .before .before .before .before .before .args in
+    let p = c .before .before .before .before .before .before .before .before .before .pre in
+    let a = c .before .before .before .before .before .before .before .before .before .args in
     let s = range-short (a .bytes .now) (a .key) _ (c .before .bytes-in .ensures) (p .1) in
     let m = p .2 in
     (laws.part-in (a .bytes .now) (a .v) (a .key) (p .0) (p .1) m, omega arith, m)
 
-add-t21 : tie.Need-add-t20
+add-t21 : tie.Need-add-t21
 add-t21 c =
-    let p = c .before .before .before .before .before .before .before .before .before .before .pre in
-    let a = c .before .before .before .before .before .before .before .before .before .before .args in
+    let p = c .before .before .before .before .before .before .before .before .before .before .before .pre in
+    let a = c .before .before .before .before .before .before .before .before .before .before .before .args in
     let f = laws.waiting-few (a .bytes .now) (a .v) (a .key) (p .0) (p .1) _ (c .before .before .before .bytes-in .ensures) _ _
     (c .before .missing-len .ensures) refl (p .2) .0 in
     let b = p .4 .nodes in
@@ -75,16 +75,16 @@ add-t21 c =
 
 bulklen-requires : tie.Need-bulklen-requires
 bulklen-requires c κs =
-    let a = c .before .before .before .before .before .before .before .before .before .before .args in
+    let a = c .before .before .before .before .before .before .before .before .before .before .before .args in
     let s = range-short (a .bytes .now) (a .key) _ (c .before .before .before .bytes-in .ensures)
-    (c .before .before .before .before .before .before .before .before .before .before .pre .1) in
-    let m = c .before .before .before .before .before .before .before .before .before .before .pre .2 in
+    (c .before .before .before .before .before .before .before .before .before .before .before .pre .1) in
+    let m = c .before .before .before .before .before .before .before .before .before .before .before .pre .2 in
     omega arith
 
-add-t24 : tie.Need-add-t23
+add-t24 : tie.Need-add-t24
 add-t24 c =
-    let p = c .before .before .before .before .before .before .before .before .before .before .before .before .pre in
-    let a = c .before .before .before .before .before .before .before .before .before .before .before .before .args in
+    let p = c .before .before .before .before .before .before .before .before .before .before .before .before .before .pre in
+    let a = c .before .before .before .before .before .before .before .before .before .before .before .before .before .args in
     let f = laws.waiting-few (a .bytes .now) (a .v) (a .key) (p .0) (p .1) _ (c .before .before .before .before .before .bytes-in .ensures) _ _
     (c .before .before .before .missing-len .ensures) (c .before .bulklen .ensures) (p .2) .1 in
     let b = p .4 .keys in
@@ -92,8 +92,8 @@ add-t24 c =
 
 returns : tie.Need-returns
 returns c =
-    let q = c .before .before .before .before .before .before .before .before .pre .3 in
-    let a = c .before .before .before .before .before .before .before .before .args in
+    let q = c .before .before .before .before .before .before .before .before .before .pre .3 .arena in
+    let a = c .before .before .before .before .before .before .before .before .before .args in
     let h = told-hit (a .arena .now) (wantAt (a .bytes .now) (a .v) (a .key))
     (placeAt (a .g) (q .rows) (a .when .clock) (a .when .epoch) (a .bytes .now) (a .v) (a .key)) (c .before .before .before .before .peek-key .result) _ _
     (c .before .before .from .given .1) (c .before .before .before .before .peek-key .ensures (q .rows) (q .lent)) in
@@ -109,8 +109,8 @@ returns c =
 
 returns-2 : tie.Need-returns-2
 returns-2 c =
-    let p = c .before .before .before .before .before .before .before .before .before .before .before .before .pre in
-    let a = c .before .before .before .before .before .before .before .before .before .before .before .before .args in
+    let p = c .before .before .before .before .before .before .before .before .before .before .before .before .before .pre in
+    let a = c .before .before .before .before .before .before .before .before .before .before .before .before .before .args in
     let f = laws.waiting-few (a .bytes .now) (a .v) (a .key) (p .0) (p .1) _ (c .before .before .before .before .before .bytes-in .ensures) _ _
     (c .before .before .before .missing-len .ensures) (c .before .bulklen .ensures) (p .2) in
     let x = f .0 in

@@ -9,28 +9,28 @@ use Rattle.planning_second_pass.proofs.plan_command.Statement.{statemen
 use Rattle.planning_second_pass.proofs.plan_command.Tie as tie
 
 get-cached-cmd-requires : tie.Need-get-cached-cmd-requires
-get-cached-cmd-requires c κs = let w = c .before .before .before .before .before .before .before .pre in (w .0 .here, w .0 .times, w .1, w .2, w .3)
+get-cached-cmd-requires c κs = let w = c .before .before .before .before .before .before .before .before .pre in (w .0 .here, w .0 .times, w .1, w .2, w .3)
 
 write-sent-requires : tie.Need-write-sent-requires
 write-sent-requires c κs =
-    let a = c .before .before .before .before .before .before .before .before .before .before .before .before .before .before .args in
-    let w = c .before .before .before .before .before .before .before .before .before .before .before .before .before .before .pre in
-    let q = w .2 in
+    let a = c .before .before .before .before .before .before .before .before .before .before .before .before .before .before .before .args in
+    let w = c .before .before .before .before .before .before .before .before .before .before .before .before .before .before .before .pre in
+    let q = w .2 .arena in
     let y = c .before .before .before .before .before .before .get-cached-cmd .ensures in
     let k = laws.prepared-sent (a .g .mode) _ _ _ _ _ _ _ _ _ (a .head) _ _ (w .1) (y .1 (q .rows) (q .lent)) in
     (w .0 .here, k .1, room-is _ _ _ _ (k .0) (w .4 (q .rows) (q .lent)))
 
 sent-count-requires : tie.Need-sent-count-requires
 sent-count-requires c κs =
-    let a = c .before .before .before .before .before .before .before .before .before .before .before .before .before .before .before .before .before .args in
-    let w = c .before .before .before .before .before .before .before .before .before .before .before .before .before .before .before .before .before .pre in
-    let q = w .2 in
+    let a = c .before .before .before .before .before .before .before .before .before .before .before .before .before .before .before .before .before .before .args in
+    let w = c .before .before .before .before .before .before .before .before .before .before .before .before .before .before .before .before .before .before .pre in
+    let q = w .2 .arena in
     let y = c .before .before .before .before .before .before .before .before .before .get-cached-cmd .ensures in
     laws.prepared-count (a .g .mode) _ _ _ _ _ _ _ _ _ (a .head) _ _ (w .1) (y .1 (q .rows) (q .lent)) .1
 
-add-t26 : tie.Need-add-t25
+add-t26 : tie.Need-add-t26
 add-t26 c =
-    let w = c .before .before .before .before .before .before .before .before .before .before .before .before .before .before .before .before .before .before .before .before .pre .5 in
+    let w = c .before .before .before .before .before .before .before .before .before .before .before .before .before .before .before .before .before .before .before .before .before .pre .5 in
     let n = c .before .before .sent-count .ensures .1 in
     omega arith
 
@@ -45,9 +45,9 @@ same-length-3 c = search needs
 
 returns : tie.Need-returns
 returns c =
-    let a = c .before .before .before .before .before .before .before .before .before .before .before .before .before .before .before .before .before .before .before .before .args in
-    let w = c .before .before .before .before .before .before .before .before .before .before .before .before .before .before .before .before .before .before .before .before .pre in
-    let q = w .2 in
+    let a = c .before .before .before .before .before .before .before .before .before .before .before .before .before .before .before .before .before .before .before .before .before .args in
+    let w = c .before .before .before .before .before .before .before .before .before .before .before .before .before .before .before .before .before .before .before .before .before .pre in
+    let q = w .2 .arena in
     let y = c .before .before .before .before .before .before .before .before .before .before .before .before .get-cached-cmd .ensures in
     let n = c .before .before .sent-count .ensures in
     let b = n .1 in (
