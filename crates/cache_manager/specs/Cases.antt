@@ -1,4 +1,5 @@
--- Plannings on a cache of one key, computed on bytes: each cause against the next one in order, both buffers at their borders, and what is written and left. They
+-- Plannings on a cache of one key, computed on bytes: each cause against the next one in order, both buffers at their borders, and what is written
+-- and left. They
 -- lean on the definitions alone, with SipHash and RESP3 as they are; outcomes by themselves are computed in planning/specs/Cases.antt. Assumes nothing.
 use mathlib.Core.Path.{_≡_, refl}
 use mathlib.Core.List.{[], _∷_, _++_}
@@ -51,7 +52,8 @@ cause-case-defs = tt
 
 unfoldable pub call-case-defs : Unit {0}
 unfolding
-    cause-case-defs same digits crlfB endedDef finDef numDef kindOf encode lengthAt crlfEnd blobEnd iter bodyHead headAt valueEnd isValue rotated sipRound rounds
+    cause-case-defs same digits crlfB endedDef finDef numDef kindOf encode lengthAt crlfEnd blobEnd iter bodyHead headAt valueEnd isValue rotated sipRound
+    rounds
     initial compressed absorbed lastWord finished sipHash readByte upto word rep names allAscii readOnlyCacheable member isCacheable multiKey singleName
     encArgument checkOf checkDef argsAt argsEnd commandsAt recordAt ask-defs outcome-defs sent-defs plan-defs planning-defs
 call-case-defs = tt

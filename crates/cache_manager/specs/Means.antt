@@ -1,4 +1,5 @@
--- What planning's own answer means: the offset that it returns is the first that is allowed, and what it leaves in the send buffer is a run of RESP3 commands, as many as its response
+-- What planning's own answer means: the offset that it returns is the first that is allowed, and what it leaves in the send buffer is a run of RESP3
+-- commands, as many as its response
 -- counts say. Both are about `planCall`, whatever goes in. Assumes nothing.
 use mathlib.Core.Path.{_≡_, refl, sym, ap, _∙_}
 use mathlib.Core.List.{List}

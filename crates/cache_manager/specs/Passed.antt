@@ -43,7 +43,8 @@ room-short R n P x y q l =
     ∙ ap (ltb R) (sym (ap length q ∙ length-append x y ∙ ap (λ (z : ℕ). z + length y) l))
 
 module _ (p : Setup) (rows : ℕ → Row) (t e : ℕ) (g : Settings) (b : Bool) (cs : List Command) where
-  pub plan-short : (R : ℕ) → spent (spent (whole R) planHeadSize) (length (allNodes p rows t e (ask g t) cs)) .short ≡ ltb R (length (planBytes p rows t e g b cs))
+  pub plan-short : (R : ℕ) → spent (spent (whole R) planHeadSize) (length (allNodes p rows t e (ask g t) cs)) .short ≡ ltb R
+      (length (planBytes p rows t e g b cs))
   unfolding planBytes
   plan-short R = room-short R planHeadSize _ (planHead b (length cs)) (allNodes p rows t e (ask g t) cs) refl (length-plan-head b (length cs))
 
@@ -140,8 +141,10 @@ module _ (g : Settings) (t e : ℕ) (b : Bool) (cs : List Command) (a d f d₁ f
     passed f₃ end r z q c bk o =
         let R : ℕ → Row = bk .rows in
         let h = o .rows in
-        let P = wrote-both d d₁ d₂ _ (planHead b (length cs)) (allNodes (setupNow g) R t e (ask g t) cs) 0 to (y .to) refl (plan-room R h) head-wrote (w .plan R h) in
-        let S = wrote-both f₁ f₂ f₃ _ (allSent (setupNow g) R t e (ask g t) (g .mode) cs) (endBytes b) from (y .from) end refl (sent-room R h) (w .send R h) z in
+        let P = wrote-both d d₁ d₂ _ (planHead b (length cs)) (allNodes (setupNow g) R t e (ask g t) cs) 0 to (y .to) refl (plan-room R h) head-wrote
+        (w .plan R h) in
+        let S = wrote-both f₁ f₂ f₃ _ (allSent (setupNow g) R t e (ask g t) (g .mode) cs) (endBytes b) from (y .from) end refl (sent-room R h)
+        (w .send R h) z in
         let T = wrote-both f f₁ f₃ _ (startBytes b) (allSent (setupNow g) R t e (ask g t) (g .mode) cs ++ endBytes b) 0 from end refl (send-room R h) j S in
         let n₁ = P .ends in
         let n₂ = T .ends in

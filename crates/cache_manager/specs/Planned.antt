@@ -104,7 +104,12 @@ module _ (t e : ℕ) (s d f : Bytes) (h : Held) (g : Settings) (rows : ℕ → R
     all-written x =
         let w = passes.plans (setupNow g) bk g t e r (length d) (length f) l (short-is ∙ x) in
         let y : planOn (setupNow g) bk g t e r (length d) (length f)
-        ≡ done (record { plan = planNow; send = sendNow; counts = responses (transaction r) (sentCount (setupNow g) rows t e (ask g t) (g .mode) (r .commands)) }) =
+        ≡ done (record {
+          plan = planNow;
+          send = sendNow;
+          counts = responses (transaction r)
+              (sentCount (setupNow g) rows t e (ask g t) (g .mode) (r .commands));
+        }) =
         w .answers ∙ ap (λ (z : List CachingResult). done (plannedBy g r z)) (outcomes-on (setupNow g) bk (ask g t) t e (r .commands))
         ∙ ap done (planned-is (setupNow g) rows t e g r) in
         ap (pipelined t e s d f h g rows r) y

@@ -85,7 +85,9 @@ fn is_short(
     send: usize,
 ) -> bool
     requires { ⌜ Planable g (when .clock) (now bytes) (k .left) (k .at) × (length (now bytes) ≤ maxBytes) × Arena g (now arena) ⌝ }
-    ensures { λ r. ⌜ ((rows : ℕ → Row) → Lent g (now (arena .entry)) rows → r ≡ (ltb plan (length (planBytes (setupNow g) rows (when .clock) (when .epoch) g transaction (commandsOf (now (bytes .entry)) k))) || ltb send (length (sendBytes (setupNow g) rows (when .clock) (when .epoch) g transaction (commandsOf (now (bytes .entry)) k))))) ⌝ }
+    ensures { λ r. ⌜ ((rows : ℕ → Row) → Lent g (now (arena .entry)) rows
+        → r ≡ (ltb plan (length (planBytes (setupNow g) rows (when .clock) (when .epoch) g transaction (commandsOf (now (bytes .entry)) k))) || ltb send
+        (length (sendBytes (setupNow g) rows (when .clock) (when .epoch) g transaction (commandsOf (now (bytes .entry)) k))))) ⌝ }
 {
     let whole = Room {
         left: plan,
@@ -112,8 +114,13 @@ fn write_pipeline(
     when: Now,
     counts: Statistics,
 ) -> CachedPipeline
-    requires { ⌜ Planable g (when .clock) (now bytes) (k .left) (k .at) × (length (now bytes) ≤ maxBytes) × Arena g (now arena) × (k .left ≤ maxCommands) × ((rows : ℕ → Row) → Lent g (now arena) rows → (length (planBytes (setupNow g) rows (when .clock) (when .epoch) g transaction (commandsOf (now bytes) k)) ≤ length (now plan)) × (length (sendBytes (setupNow g) rows (when .clock) (when .epoch) g transaction (commandsOf (now bytes) k)) ≤ length (now send))) ⌝ }
-    ensures { λ r. ⌜ ((bk : Book) → Keeps g (now (arena .entry)) counts bk → Passed g (when .clock) (when .epoch) transaction (commandsOf (now (bytes .entry)) k) bk (now (plan .entry)) (now (send .entry)) (now (arena .exit)) (now (plan .exit)) (now (send .exit)) r) ⌝ }
+    requires { ⌜ Planable g (when .clock) (now bytes) (k .left) (k .at) × (length (now bytes) ≤ maxBytes) × Arena g (now arena) × (k .left ≤ maxCommands)
+        × ((rows : ℕ → Row) → Lent g (now arena) rows → (length
+        (planBytes (setupNow g) rows (when .clock) (when .epoch) g transaction (commandsOf (now bytes) k)) ≤ length (now plan))
+        × (length (sendBytes (setupNow g) rows (when .clock) (when .epoch) g transaction (commandsOf (now bytes) k)) ≤ length (now send))) ⌝ }
+    ensures { λ r. ⌜ ((bk : Book) → Keeps g (now (arena .entry)) counts bk
+        → Passed g (when .clock) (when .epoch) transaction (commandsOf (now (bytes .entry)) k) bk (now (plan .entry)) (now (send .entry)) (now (arena .exit))
+        (now (plan .exit)) (now (send .exit)) r) ⌝ }
 {
     let n = k.left;
     let to = plan_write::write_plan_head(plan, transaction, n as u32);
@@ -155,7 +162,10 @@ fn plan_record(
     counts: Statistics,
 ) -> CachedPipeline
     requires { ⌜ Arena g (now arena) × (length (now bytes) ≤ maxBytes) × (checkDef (now bytes) ≡ Fine) ⌝ }
-    ensures { λ r. ⌜ ((rows : ℕ → Row) (next : ℕ) → Lent g (now (arena .entry)) rows → Leaves (recorded (when .clock) (when .epoch) (now (bytes .entry)) (now (plan .entry)) (now (send .entry)) (holding (now (arena .entry)) (countsOf counts) next) g rows (recordAt (now (bytes .entry)))) (now (arena .exit)) (now (plan .exit)) (now (send .exit)) r) ⌝ }
+    ensures { λ r. ⌜ ((rows : ℕ → Row) (next : ℕ) → Lent g (now (arena .entry)) rows
+        → Leaves (recorded (when .clock) (when .epoch) (now (bytes .entry)) (now (plan .entry)) (now (send .entry))
+        (holding (now (arena .entry)) (countsOf counts) next) g rows (recordAt (now (bytes .entry)))) (now (arena .exit)) (now (plan .exit))
+        (now (send .exit)) r) ⌝ }
 {
     let k = cursor::commands_of(bytes);
     if planning_ask::any_late(bytes, k, g, when.clock) {
@@ -181,7 +191,9 @@ fn plan_admitted(
     counts: Statistics,
 ) -> CachedPipeline
     requires { ⌜ Arena g (now arena) ⌝ }
-    ensures { λ r. ⌜ ((rows : ℕ → Row) (next : ℕ) → Lent g (now (arena .entry)) rows → Leaves (admittedTo (when .clock) (when .epoch) (now (bytes .entry)) (now (plan .entry)) (now (send .entry)) (holding (now (arena .entry)) (countsOf counts) next) g rows) (now (arena .exit)) (now (plan .exit)) (now (send .exit)) r) ⌝ }
+    ensures { λ r. ⌜ ((rows : ℕ → Row) (next : ℕ) → Lent g (now (arena .entry)) rows
+        → Leaves (admittedTo (when .clock) (when .epoch) (now (bytes .entry)) (now (plan .entry)) (now (send .entry))
+        (holding (now (arena .entry)) (countsOf counts) next) g rows) (now (arena .exit)) (now (plan .exit)) (now (send .exit)) r) ⌝ }
 {
     if config::MAX_BYTES < bytes.len() {
         return refused(config::TOO_LONG, counts);
@@ -207,7 +219,8 @@ pub fn get_cached_pipeline(
     send: &mut [u8],
     counts: Statistics,
 ) -> CachedPipeline
-    ensures { λ r. ⌜ ((next : ℕ) → Leaves (planCall size mode ttl (when .clock) (when .epoch) (now (bytes .entry)) (now (plan .entry)) (now (send .entry)) (holding (now (arena .entry)) (countsOf counts) next)) (now (arena .exit)) (now (plan .exit)) (now (send .exit)) r) ⌝ }
+    ensures { λ r. ⌜ ((next : ℕ) → Leaves (planCall size mode ttl (when .clock) (when .epoch) (now (bytes .entry)) (now (plan .entry)) (now (send .entry))
+        (holding (now (arena .entry)) (countsOf counts) next)) (now (arena .exit)) (now (plan .exit)) (now (send .exit)) r) ⌝ }
 {
     match sharded_lru::admit(arena, size, mode, ttl) {
         Admitted::Refused(n) => refused(n, counts),

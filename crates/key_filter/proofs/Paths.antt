@@ -41,7 +41,8 @@ module _ (seen : List ℕ) (k : Bytes) (b : ℕ) (e : b ≡ bitOf k) where
   pub noted-bit : (u : List ℕ) → u ≡ set seen (b / 64) (bitOr (getD seen (b / 64) 0) (1 * 2 ^ (b % 64) % 2 ^ 64)) → u ≡ setBit seen (bitOf k)
   unfolding setBit
   noted-bit u q =
-      let one : 1 * 2 ^ (b % 64) % 2 ^ 64 ≡ 2 ^ (b % 64) = ap (λ (n : ℕ). n % 2 ^ 64) (one-mul (2 ^ (b % 64))) ∙ mod-eq-of-lt (pow-lt {i = b % 64} {j = 64} (omega arith)) in
+      let one : 1 * 2 ^ (b % 64) % 2 ^ 64 ≡ 2 ^ (b % 64) = ap (λ (n : ℕ). n % 2 ^ 64) (one-mul (2 ^ (b % 64)))
+      ∙ mod-eq-of-lt (pow-lt {i = b % 64} {j = 64} (omega arith)) in
       q ∙ ap (λ (n : ℕ). set seen (b / 64) (bitOr (getD seen (b / 64) 0) n)) one ∙ ap (setBit seen) e
 
   -- no word has it

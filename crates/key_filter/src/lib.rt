@@ -54,7 +54,8 @@ pub fn note(seen: &mut [u64], key: &[u8])
 // Sets the bit of the key of the item at `at`.
 fn note_item(s: &[u8], at: usize, seen: &mut [u64])
     requires { ⌜ ItemAt (now s) at ⌝ }
-    ensures { λ _. ⌜ ((front back : Row) (it : Item) → Stands (now (s .entry)) at front back it → now (seen .exit) ≡ setBit (now (seen .entry)) (bitOf (it .key))) ⌝ }
+    ensures { λ _. ⌜ ((front back : Row) (it : Item) → Stands (now (s .entry)) at front back it
+        → now (seen .exit) ≡ setBit (now (seen .entry)) (bitOf (it .key))) ⌝ }
 {
     let from = at + 32;
     let to = from + buffer::read_u32(s, at) as usize;
@@ -99,7 +100,9 @@ pub fn peek(
     seen: &[u64],
 ) -> Looked
     requires { ⌜ Filtered g (now arena) (now seen) × KeyIn (now source) command ⌝ }
-    ensures { λ r. ⌜ ((rows : ℕ → Row) → Lent g (now (arena .entry)) rows → Told (now (arena .entry)) (effectIn (setupNow g) (lookup (now (key .entry)) (keyBytes (now (source .entry)) command) (when .clock) (when .epoch)) rows) r) ⌝ }
+    ensures { λ r. ⌜ ((rows : ℕ → Row) → Lent g (now (arena .entry)) rows
+        → Told (now (arena .entry)) (effectIn (setupNow g) (lookup (now (key .entry)) (keyBytes (now (source .entry)) command) (when .clock) (when .epoch))
+        rows) r) ⌝ }
 {
     if !may_hold(seen, key) {
         return Looked::Miss(0);
@@ -118,7 +121,12 @@ pub fn get(
     seen: &[u64],
 ) -> Looked
     requires { ⌜ Filtered g (now arena) (now seen) × KeyIn (now source) command ⌝ }
-    ensures { λ r. ⌜ ((rows : ℕ → Row) → Lent g (now (arena .entry)) rows → Lent g (now (arena .exit)) (rowsAfter (setupNow g) (on (lookup (now (key .entry)) (keyBytes (now (source .entry)) command) (when .clock) (when .epoch))) rows) × Told (now (arena .exit)) (effectIn (setupNow g) (lookup (now (key .entry)) (keyBytes (now (source .entry)) command) (when .clock) (when .epoch)) rows) r × BeginsAt (arenaPlace (setupNow g) (now (key .entry)) (keyBytes (now (source .entry)) command) (rowsAfter (setupNow g) (on (lookup (now (key .entry)) (keyBytes (now (source .entry)) command) (when .clock) (when .epoch))) rows)) r) ⌝ }
+    ensures { λ r. ⌜ ((rows : ℕ → Row) → Lent g (now (arena .entry)) rows
+        → Lent g (now (arena .exit)) (rowsAfter (setupNow g)
+        (on (lookup (now (key .entry)) (keyBytes (now (source .entry)) command) (when .clock) (when .epoch))) rows)
+        × Told (now (arena .exit)) (effectIn (setupNow g) (lookup (now (key .entry)) (keyBytes (now (source .entry)) command) (when .clock) (when .epoch))
+        rows) r × BeginsAt (arenaPlace (setupNow g) (now (key .entry)) (keyBytes (now (source .entry)) command)
+        (rowsAfter (setupNow g) (on (lookup (now (key .entry)) (keyBytes (now (source .entry)) command) (when .clock) (when .epoch))) rows)) r) ⌝ }
 {
     if !may_hold(seen, key) {
         return Looked::Miss(0);
@@ -138,7 +146,10 @@ pub fn insert(
     seen: &mut [u64],
 ) -> bool
     requires { ⌜ Arena g (now arena) × Storable (now key) (now command) (now value) × (isValue (now value) ≡ true) × Filters g (now arena) (now seen) ⌝ }
-    ensures { λ r. ⌜ ((rows : ℕ → Row) → Lent g (now (arena .entry)) rows → Lent g (now (arena .exit)) (rowsAfter (setupNow g) (on (store (now (key .entry)) (now (command .entry)) (now (value .entry)) expiry epoch)) rows) × (cond r stored noSpace ≡ effectIn (setupNow g) (store (now (key .entry)) (now (command .entry)) (now (value .entry)) expiry epoch) rows .answer)) × Filters g (now (arena .exit)) (now (seen .exit)) ⌝ }
+    ensures { λ r. ⌜ ((rows : ℕ → Row) → Lent g (now (arena .entry)) rows
+        → Lent g (now (arena .exit)) (rowsAfter (setupNow g) (on (store (now (key .entry)) (now (command .entry)) (now (value .entry)) expiry epoch)) rows)
+        × (cond r stored noSpace ≡ effectIn (setupNow g) (store (now (key .entry)) (now (command .entry)) (now (value .entry)) expiry epoch) rows .answer))
+        × Filters g (now (arena .exit)) (now (seen .exit)) ⌝ }
 {
     if may_hold(seen, key) {
         return sharded_lru::insert(arena, g, key, command, value, expiry, epoch);

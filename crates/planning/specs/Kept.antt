@@ -240,4 +240,9 @@ good-plan s t r said v b e h =
 pub keeps-rules : (s : Settings) (t : ℕ) (r : Record) (said : List Answer) → ValidRecord r → length (encRecord r) ≤ maxBytes → anyLate s t (r .commands) ≡ false
     → All GoodAnswer said → IsPlan (plannedFrom (ask s t) s r said .plan)
 unfolding plannedFrom plannedBy
-keeps-rules s t r said v b e h = record { plan = planOf (transaction r) (outcomes (ask s t) (r .commands) said); good = good-plan s t r said v b e h; is = refl }
+keeps-rules s t r said v b e h = record {
+  plan = planOf (transaction r)
+      (outcomes (ask s t) (r .commands) said);
+  good = good-plan s t r said v b e h;
+  is = refl;
+}

@@ -262,7 +262,8 @@ fn ask_one(bytes: &[u8], k: Args, expiry: u64) -> Asked
 // By the command's name.
 fn ask_named(bytes: &[u8], k: Args, name: Range, expiry: u64) -> Asked
     requires { ⌜ ArgsHere (now bytes) k × RangeIn (now bytes) name × (plan.reachBy (argsOf (now bytes) k) ≡ plan.named (rangeBytes (now bytes) name)) ⌝ }
-    ensures { λ r. ⌜ (askedOf (now (bytes .entry)) r ≡ askNamed (rangeBytes (now (bytes .entry)) name) (argsOf (now (bytes .entry)) k) expiry) × AskedIn (now (bytes .entry)) r ⌝ }
+    ensures { λ r. ⌜ (askedOf (now (bytes .entry)) r ≡ askNamed (rangeBytes (now (bytes .entry)) name) (argsOf (now (bytes .entry)) k) expiry)
+        × AskedIn (now (bytes .entry)) r ⌝ }
 {
     let text = cursor::bytes_in(bytes, name);
     match commands::is_multi_key(text) {

@@ -94,9 +94,11 @@ sized-is g rows t e c o z q w =
 pub record Walked (g : Settings) (a s : Bytes) (t e : ℕ) (m₀ at₀ : ℕ) (p₀ q₀ : Room) (m at : ℕ) (p q : Room) : Type 0 where
   pub ahead : Planable g t s m at
   pub plan : (rows : ℕ → Row) → Lent g a rows
-      → spent p₀ (length (allNodes (setupNow g) rows t e (ask g t) (commandsAt s m₀ at₀))) ≡ spent p (length (allNodes (setupNow g) rows t e (ask g t) (commandsAt s m at)))
+      → spent p₀ (length (allNodes (setupNow g) rows t e (ask g t) (commandsAt s m₀ at₀))) ≡ spent p
+      (length (allNodes (setupNow g) rows t e (ask g t) (commandsAt s m at)))
   pub send : (rows : ℕ → Row) → Lent g a rows
-      → spent q₀ (length (allSent (setupNow g) rows t e (ask g t) (g .mode) (commandsAt s m₀ at₀))) ≡ spent q (length (allSent (setupNow g) rows t e (ask g t) (g .mode) (commandsAt s m at)))
+      → spent q₀ (length (allSent (setupNow g) rows t e (ask g t) (g .mode) (commandsAt s m₀ at₀))) ≡ spent q
+      (length (allSent (setupNow g) rows t e (ask g t) (g .mode) (commandsAt s m at)))
 
 module _ (g : Settings) (a s : Bytes) (t e m₀ at₀ : ℕ) (p₀ q₀ : Room) where
   pub walked-start : Planable g t s m₀ at₀ → Walked g a s t e m₀ at₀ p₀ q₀ m₀ at₀ p₀ q₀

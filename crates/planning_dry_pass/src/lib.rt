@@ -40,7 +40,8 @@ pub struct Size {
 // The bytes that a command takes whose reply is handed on: a node, and the command itself.
 fn size_own(bytes: &[u8], head: Head) -> Size
     requires { ⌜ ArgsHere (now bytes) (head .args) × (length (now bytes) ≤ maxBytes) × (head .args .left ≤ maxArguments) ⌝ }
-    ensures { λ r. ⌜ ((m : CacheMode) → SizedAs m (commandOf (now (bytes .entry)) head) ignored r × SizedAs m (commandOf (now (bytes .entry)) head) (item notCacheable) r) ⌝ }
+    ensures { λ r. ⌜ ((m : CacheMode) → SizedAs m (commandOf (now (bytes .entry)) head) ignored r
+        × SizedAs m (commandOf (now (bytes .entry)) head) (item notCacheable) r) ⌝ }
 {
     Size {
         plan: planning::NODE_HEAD,
@@ -59,7 +60,9 @@ fn peek_one(
     seen: &[u64],
 ) -> Looked
     requires { ⌜ ArgsHere (now bytes) (head .args) × RangeIn (now bytes) key × Filtered g (now arena) (now seen) ⌝ }
-    ensures { λ r. ⌜ ((rows : ℕ → Row) → Lent g (now (arena .entry)) rows → PlaceTold (now (arena .entry)) (wholeKey (commandOf (now (bytes .entry)) head) (rangeBytes (now (bytes .entry)) key)) (placeOn (setupNow g) rows (when .clock) (when .epoch) (wholeKey (commandOf (now (bytes .entry)) head) (rangeBytes (now (bytes .entry)) key))) r) ⌝ }
+    ensures { λ r. ⌜ ((rows : ℕ → Row) → Lent g (now (arena .entry)) rows
+        → PlaceTold (now (arena .entry)) (wholeKey (commandOf (now (bytes .entry)) head) (rangeBytes (now (bytes .entry)) key))
+        (placeOn (setupNow g) rows (when .clock) (when .epoch) (wholeKey (commandOf (now (bytes .entry)) head) (rangeBytes (now (bytes .entry)) key))) r) ⌝ }
 {
     let text = cursor::bytes_in(bytes, key);
     let args = head.args;
@@ -77,8 +80,12 @@ fn size_one(
     when: Now,
     seen: &[u64],
 ) -> Size
-    requires { ⌜ ArgsHere (now bytes) (head .args) × (length (now bytes) ≤ maxBytes) × (head .args .left ≤ maxArguments) × RangeIn (now bytes) key × Filtered g (now arena) (now seen) ⌝ }
-    ensures { λ r. ⌜ ((rows : ℕ → Row) → Lent g (now (arena .entry)) rows → (x : ℕ) → SizedAs (g .mode) (commandOf (now (bytes .entry)) head) (item (singleItem (placeOn (setupNow g) rows (when .clock) (when .epoch) (wholeKey (commandOf (now (bytes .entry)) head) (rangeBytes (now (bytes .entry)) key))) x)) r) ⌝ }
+    requires { ⌜ ArgsHere (now bytes) (head .args) × (length (now bytes) ≤ maxBytes) × (head .args .left ≤ maxArguments) × RangeIn (now bytes) key
+        × Filtered g (now arena) (now seen) ⌝ }
+    ensures { λ r. ⌜ ((rows : ℕ → Row) → Lent g (now (arena .entry)) rows → (x : ℕ)
+        → SizedAs (g .mode) (commandOf (now (bytes .entry)) head)
+        (item (singleItem (placeOn (setupNow g) rows (when .clock) (when .epoch)
+        (wholeKey (commandOf (now (bytes .entry)) head) (rangeBytes (now (bytes .entry)) key))) x)) r) ⌝ }
 {
     let mode = g.mode;
     let args = head.args;
@@ -108,7 +115,8 @@ fn size_several(
     seen: &[u64],
 ) -> Size
     requires { ⌜ SeveralIn (now bytes) v × (length (now bytes) ≤ maxBytes) × Filtered g (now arena) (now seen) ⌝ }
-    ensures { λ r. ⌜ ((rows : ℕ → Row) → Lent g (now (arena .entry)) rows → (c : Command) (x : ℕ) → SizedAs (g .mode) c (item (severalItem (setupNow g) rows (when .clock) (when .epoch) (now (bytes .entry)) v x)) r) ⌝ }
+    ensures { λ r. ⌜ ((rows : ℕ → Row) → Lent g (now (arena .entry)) rows → (c : Command) (x : ℕ)
+        → SizedAs (g .mode) c (item (severalItem (setupNow g) rows (when .clock) (when .epoch) (now (bytes .entry)) v x)) r) ⌝ }
 {
     let mode = g.mode;
     let m = planning_places::measure(bytes, v, arena, g, when, seen);
@@ -128,7 +136,8 @@ fn size_several(
 // The bytes that one command takes: each of its keys is peeked once.
 fn size_by(bytes: &[u8], head: Head, arena: &[u8], g: Settings, when: Now, seen: &[u64]) -> Size
     requires { ⌜ One g (when .clock) (now bytes) head × (length (now bytes) ≤ maxBytes) × Filtered g (now arena) (now seen) ⌝ }
-    ensures { λ r. ⌜ ((rows : ℕ → Row) → Lent g (now (arena .entry)) rows → SizeIs g rows (when .clock) (when .epoch) (commandOf (now (bytes .entry)) head) r) ⌝ }
+    ensures { λ r. ⌜ ((rows : ℕ → Row) → Lent g (now (arena .entry)) rows
+        → SizeIs g rows (when .clock) (when .epoch) (commandOf (now (bytes .entry)) head) r) ⌝ }
 {
     match planning_ask::ask(bytes, head, g, when.clock) {
         Asked::Nothing => size_own(bytes, head),
@@ -141,7 +150,8 @@ fn size_by(bytes: &[u8], head: Head, arena: &[u8], g: Settings, when: Now, seen:
 // The same without a filter.
 pub fn size_of(bytes: &[u8], head: Head, arena: &[u8], g: Settings, when: Now) -> Size
     requires { ⌜ One g (when .clock) (now bytes) head × (length (now bytes) ≤ maxBytes) × Arena g (now arena) ⌝ }
-    ensures { λ r. ⌜ ((rows : ℕ → Row) → Lent g (now (arena .entry)) rows → SizeIs g rows (when .clock) (when .epoch) (commandOf (now (bytes .entry)) head) r) ⌝ }
+    ensures { λ r. ⌜ ((rows : ℕ → Row) → Lent g (now (arena .entry)) rows
+        → SizeIs g rows (when .clock) (when .epoch) (commandOf (now (bytes .entry)) head) r) ⌝ }
 {
     let none = [0u64; 0];
     size_by(bytes, head, arena, g, when, &none)
@@ -159,7 +169,10 @@ fn dry_each(
     seen: &[u64],
 ) -> bool
     requires { ⌜ Planable g (when .clock) (now bytes) (k .left) (k .at) × (length (now bytes) ≤ maxBytes) × Filtered g (now arena) (now seen) ⌝ }
-    ensures { λ r. ⌜ ((rows : ℕ → Row) → Lent g (now (arena .entry)) rows → r ≡ (spent plan (length (allNodes (setupNow g) rows (when .clock) (when .epoch) (ask g (when .clock)) (commandsOf (now (bytes .entry)) k))) .short || spent send (length (allSent (setupNow g) rows (when .clock) (when .epoch) (ask g (when .clock)) (g .mode) (commandsOf (now (bytes .entry)) k))) .short)) ⌝ }
+    ensures { λ r. ⌜ ((rows : ℕ → Row) → Lent g (now (arena .entry)) rows
+        → r ≡ (spent plan (length (allNodes (setupNow g) rows (when .clock) (when .epoch) (ask g (when .clock))
+        (commandsOf (now (bytes .entry)) k))) .short || spent send
+        (length (allSent (setupNow g) rows (when .clock) (when .epoch) (ask g (when .clock)) (g .mode) (commandsOf (now (bytes .entry)) k))) .short)) ⌝ }
 {
     let mut at = k.at;
     let mut left = k.left;
@@ -187,7 +200,10 @@ fn dry_filtered(
     send: Room,
 ) -> bool
     requires { ⌜ Planable g (when .clock) (now bytes) (k .left) (k .at) × (length (now bytes) ≤ maxBytes) × Arena g (now arena) ⌝ }
-    ensures { λ r. ⌜ ((rows : ℕ → Row) → Lent g (now (arena .entry)) rows → r ≡ (spent plan (length (allNodes (setupNow g) rows (when .clock) (when .epoch) (ask g (when .clock)) (commandsOf (now (bytes .entry)) k))) .short || spent send (length (allSent (setupNow g) rows (when .clock) (when .epoch) (ask g (when .clock)) (g .mode) (commandsOf (now (bytes .entry)) k))) .short)) ⌝ }
+    ensures { λ r. ⌜ ((rows : ℕ → Row) → Lent g (now (arena .entry)) rows
+        → r ≡ (spent plan (length (allNodes (setupNow g) rows (when .clock) (when .epoch) (ask g (when .clock))
+        (commandsOf (now (bytes .entry)) k))) .short || spent send
+        (length (allSent (setupNow g) rows (when .clock) (when .epoch) (ask g (when .clock)) (g .mode) (commandsOf (now (bytes .entry)) k))) .short)) ⌝ }
 {
     let mut seen = [0u64; 1024];
     key_filter::fill(arena, g, &mut seen);
@@ -205,7 +221,10 @@ pub fn dry_pass(
     send: Room,
 ) -> bool
     requires { ⌜ Planable g (when .clock) (now bytes) (k .left) (k .at) × (length (now bytes) ≤ maxBytes) × Arena g (now arena) ⌝ }
-    ensures { λ r. ⌜ ((rows : ℕ → Row) → Lent g (now (arena .entry)) rows → r ≡ (spent plan (length (allNodes (setupNow g) rows (when .clock) (when .epoch) (ask g (when .clock)) (commandsOf (now (bytes .entry)) k))) .short || spent send (length (allSent (setupNow g) rows (when .clock) (when .epoch) (ask g (when .clock)) (g .mode) (commandsOf (now (bytes .entry)) k))) .short)) ⌝ }
+    ensures { λ r. ⌜ ((rows : ℕ → Row) → Lent g (now (arena .entry)) rows
+        → r ≡ (spent plan (length (allNodes (setupNow g) rows (when .clock) (when .epoch) (ask g (when .clock))
+        (commandsOf (now (bytes .entry)) k))) .short || spent send
+        (length (allSent (setupNow g) rows (when .clock) (when .epoch) (ask g (when .clock)) (g .mode) (commandsOf (now (bytes .entry)) k))) .short)) ⌝ }
 {
     if bytes.len() < 2048 {
         let none = [0u64; 0];

@@ -30,7 +30,8 @@ pub fn look_up_key(
     seen: &[u64],
 ) -> Found
     requires { ⌜ RangeIn (now bytes) key × KeyIn (now bytes) command × Filtered g (now arena) (now seen) ⌝ }
-    ensures { λ r. ⌜ ((w : Wanted) → w .key ≡ rangeBytes (now (bytes .entry)) key → w .command ≡ keyBytes (now (bytes .entry)) command → Finds g (when .clock) (when .epoch) w (now (arena .entry)) counts (now (arena .exit)) r) ⌝ }
+    ensures { λ r. ⌜ ((w : Wanted) → w .key ≡ rangeBytes (now (bytes .entry)) key → w .command ≡ keyBytes (now (bytes .entry)) command
+        → Finds g (when .clock) (when .epoch) w (now (arena .entry)) counts (now (arena .exit)) r) ⌝ }
 {
     let text = cursor::bytes_in(bytes, key);
     let looked = key_filter::get(arena, g, text, bytes, command, when, seen);

@@ -66,8 +66,12 @@ fn write_place(
     x: Written,
     seen: &[u64],
 ) -> Written
-    requires { ⌜ SeveralIn (now bytes) v × RangeIn (now bytes) key × (length (now bytes) ≤ maxBytes) × Filtered g (now arena) (now seen) × ((rows : ℕ → Row) → Lent g (now arena) rows → x .to + length (placeNode expiry (placeOn (setupNow g) rows (when .clock) (when .epoch) (wantAt (now bytes) v key))) ≤ length (now plan)) × (x .missing + 1 < 2 ^ 64) ⌝ }
-    ensures { λ r. ⌜ Placed g (when .clock) (when .epoch) expiry (wantAt (now (bytes .entry)) v key) (now (arena .entry)) (now (plan .entry)) x (now (arena .exit)) (now (plan .exit)) r ⌝ }
+    requires { ⌜ SeveralIn (now bytes) v × RangeIn (now bytes) key × (length (now bytes) ≤ maxBytes) × Filtered g (now arena) (now seen)
+        × ((rows : ℕ → Row) → Lent g (now arena) rows → x .to + length
+        (placeNode expiry (placeOn (setupNow g) rows (when .clock) (when .epoch) (wantAt (now bytes) v key))) ≤ length (now plan))
+        × (x .missing + 1 < 2 ^ 64) ⌝ }
+    ensures { λ r. ⌜ Placed g (when .clock) (when .epoch) expiry (wantAt (now (bytes .entry)) v key) (now (arena .entry)) (now (plan .entry)) x
+        (now (arena .exit)) (now (plan .exit)) r ⌝ }
 {
     let path = v.path;
     let command = CommandKey::Named(v.json, key, path);
@@ -104,8 +108,11 @@ fn write_places(
     x: Written,
     seen: &[u64],
 ) -> Written
-    requires { ⌜ SeveralIn (now bytes) v × (length (now bytes) ≤ maxBytes) × Filtered g (now arena) (now seen) × ((rows : ℕ → Row) → Lent g (now arena) rows → x .to + length (encAll encNode (placeNodes expiry (placesNow g rows (when .clock) (when .epoch) (now bytes) v))) ≤ length (now plan)) × (x .missing ≤ maxBytes) ⌝ }
-    ensures { λ r. ⌜ Done g (when .clock) (when .epoch) expiry (now (bytes .entry)) v (now (arena .entry)) (now (plan .entry)) x (now (arena .exit)) (now (plan .exit)) r ⌝ }
+    requires { ⌜ SeveralIn (now bytes) v × (length (now bytes) ≤ maxBytes) × Filtered g (now arena) (now seen)
+        × ((rows : ℕ → Row) → Lent g (now arena) rows → x .to + length
+        (encAll encNode (placeNodes expiry (placesNow g rows (when .clock) (when .epoch) (now bytes) v))) ≤ length (now plan)) × (x .missing ≤ maxBytes) ⌝ }
+    ensures { λ r. ⌜ Done g (when .clock) (when .epoch) expiry (now (bytes .entry)) v (now (arena .entry)) (now (plan .entry)) x (now (arena .exit))
+        (now (plan .exit)) r ⌝ }
 {
     let mut k = v.args;
     let mut left = v.keys;
@@ -133,8 +140,13 @@ fn write_several(
     counts: Statistics,
     seen: &[u64],
 ) -> Prepared
-    requires { ⌜ SeveralIn (now bytes) v × (length (now bytes) ≤ maxBytes) × Filtered g (now arena) (now seen) × ((rows : ℕ → Row) → Lent g (now arena) rows → to + length (nodesAs (item (severalItem (setupNow g) rows (when .clock) (when .epoch) (now bytes) v expiry))) ≤ length (now plan)) ⌝ }
-    ensures { λ r. ⌜ Looks g (when .clock) (when .epoch) (wantedIn (now (bytes .entry)) v) (now (arena .entry)) counts (now (arena .exit)) (r .counts) × ((rows : ℕ → Row) → Lent g (now (arena .entry)) rows → (c : Command) → Prepares g rows (when .clock) (when .epoch) (now (bytes .entry)) (now (arena .exit)) (now (plan .entry)) to (now (plan .exit)) c (item (severalItem (setupNow g) rows (when .clock) (when .epoch) (now (bytes .entry)) v expiry)) r) ⌝ }
+    requires { ⌜ SeveralIn (now bytes) v × (length (now bytes) ≤ maxBytes) × Filtered g (now arena) (now seen)
+        × ((rows : ℕ → Row) → Lent g (now arena) rows → to + length
+        (nodesAs (item (severalItem (setupNow g) rows (when .clock) (when .epoch) (now bytes) v expiry))) ≤ length (now plan)) ⌝ }
+    ensures { λ r. ⌜ Looks g (when .clock) (when .epoch) (wantedIn (now (bytes .entry)) v) (now (arena .entry)) counts (now (arena .exit)) (r .counts)
+        × ((rows : ℕ → Row) → Lent g (now (arena .entry)) rows → (c : Command)
+        → Prepares g rows (when .clock) (when .epoch) (now (bytes .entry)) (now (arena .exit)) (now (plan .entry)) to (now (plan .exit)) c
+        (item (severalItem (setupNow g) rows (when .clock) (when .epoch) (now (bytes .entry)) v expiry)) r) ⌝ }
 {
     let start = to + planning::NODE_HEAD;
     let first = Written {
@@ -182,8 +194,17 @@ fn write_one(
     counts: Statistics,
     seen: &[u64],
 ) -> Prepared
-    requires { ⌜ ArgsHere (now bytes) (head .args) × RangeIn (now bytes) key × (length (now bytes) ≤ maxBytes) × Filtered g (now arena) (now seen) × ((rows : ℕ → Row) → Lent g (now arena) rows → to + length (nodesAs (item (singleItem (placeOn (setupNow g) rows (when .clock) (when .epoch) (wholeKey (commandOf (now bytes) head) (rangeBytes (now bytes) key))) expiry))) ≤ length (now plan)) ⌝ }
-    ensures { λ r. ⌜ Looks g (when .clock) (when .epoch) (wholeKey (commandOf (now (bytes .entry)) head) (rangeBytes (now (bytes .entry)) key) ∷ []) (now (arena .entry)) counts (now (arena .exit)) (r .counts) × ((rows : ℕ → Row) → Lent g (now (arena .entry)) rows → Prepares g rows (when .clock) (when .epoch) (now (bytes .entry)) (now (arena .exit)) (now (plan .entry)) to (now (plan .exit)) (commandOf (now (bytes .entry)) head) (item (singleItem (placeOn (setupNow g) rows (when .clock) (when .epoch) (wholeKey (commandOf (now (bytes .entry)) head) (rangeBytes (now (bytes .entry)) key))) expiry)) r) ⌝ }
+    requires { ⌜ ArgsHere (now bytes) (head .args) × RangeIn (now bytes) key × (length (now bytes) ≤ maxBytes) × Filtered g (now arena) (now seen)
+        × ((rows : ℕ → Row) → Lent g (now arena) rows → to + length
+        (nodesAs (item (singleItem (placeOn (setupNow g) rows (when .clock) (when .epoch)
+        (wholeKey (commandOf (now bytes) head) (rangeBytes (now bytes) key))) expiry))) ≤ length (now plan)) ⌝ }
+    ensures { λ r. ⌜ Looks g (when .clock) (when .epoch) (wholeKey (commandOf (now (bytes .entry)) head) (rangeBytes (now (bytes .entry)) key) ∷ [])
+        (now (arena .entry)) counts (now (arena .exit)) (r .counts)
+        × ((rows : ℕ → Row) → Lent g (now (arena .entry)) rows
+        → Prepares g rows (when .clock) (when .epoch) (now (bytes .entry)) (now (arena .exit)) (now (plan .entry)) to (now (plan .exit))
+        (commandOf (now (bytes .entry)) head) (item (singleItem
+        (placeOn (setupNow g) rows (when .clock) (when .epoch) (wholeKey (commandOf (now (bytes .entry)) head) (rangeBytes (now (bytes .entry)) key)))
+        expiry)) r) ⌝ }
 {
     let args = head.args;
     let command = CommandKey::Joined(args);
@@ -230,8 +251,16 @@ pub fn get_cached_cmd(
     counts: Statistics,
     seen: &[u64],
 ) -> Prepared
-    requires { ⌜ ArgsHere (now bytes) (head .args) × OnTime g (when .clock) (commandOf (now bytes) head) × (length (now bytes) ≤ maxBytes) × Filtered g (now arena) (now seen) × ((rows : ℕ → Row) → Lent g (now arena) rows → to + length (nodesAs (outcomeFor (setupNow g) rows (when .clock) (when .epoch) (ask g (when .clock)) (commandOf (now bytes) head))) ≤ length (now plan)) ⌝ }
-    ensures { λ r. ⌜ Looks g (when .clock) (when .epoch) (wants (commandOf (now (bytes .entry)) head) (ask g (when .clock) (commandOf (now (bytes .entry)) head))) (now (arena .entry)) counts (now (arena .exit)) (r .counts) × ((rows : ℕ → Row) → Lent g (now (arena .entry)) rows → Prepares g rows (when .clock) (when .epoch) (now (bytes .entry)) (now (arena .exit)) (now (plan .entry)) to (now (plan .exit)) (commandOf (now (bytes .entry)) head) (outcomeFor (setupNow g) rows (when .clock) (when .epoch) (ask g (when .clock)) (commandOf (now (bytes .entry)) head)) r) ⌝ }
+    requires { ⌜ ArgsHere (now bytes) (head .args) × OnTime g (when .clock) (commandOf (now bytes) head) × (length (now bytes) ≤ maxBytes)
+        × Filtered g (now arena) (now seen) × ((rows : ℕ → Row) → Lent g (now arena) rows
+        → to + length (nodesAs (outcomeFor (setupNow g) rows (when .clock) (when .epoch) (ask g (when .clock)) (commandOf (now bytes) head))) ≤ length
+        (now plan)) ⌝ }
+    ensures { λ r. ⌜ Looks g (when .clock) (when .epoch) (wants (commandOf (now (bytes .entry)) head)
+        (ask g (when .clock) (commandOf (now (bytes .entry)) head))) (now (arena .entry)) counts (now (arena .exit)) (r .counts)
+        × ((rows : ℕ → Row) → Lent g (now (arena .entry)) rows
+        → Prepares g rows (when .clock) (when .epoch) (now (bytes .entry)) (now (arena .exit)) (now (plan .entry)) to (now (plan .exit))
+        (commandOf (now (bytes .entry)) head) (outcomeFor (setupNow g) rows (when .clock) (when .epoch) (ask g (when .clock))
+        (commandOf (now (bytes .entry)) head)) r) ⌝ }
 {
     match planning_ask::ask(bytes, head, g, when.clock) {
         Asked::Nothing => Prepared {

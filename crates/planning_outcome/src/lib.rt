@@ -53,7 +53,10 @@ pub fn peek_key(
     seen: &[u64],
 ) -> Looked
     requires { ⌜ SeveralIn (now bytes) v × RangeIn (now bytes) key × (length (now bytes) ≤ maxBytes) × Filtered g (now arena) (now seen) ⌝ }
-    ensures { λ r. ⌜ ((rows : ℕ → Row) → Lent g (now (arena .entry)) rows → PlaceTold (now (arena .entry)) (partKey (severalName (v .json)) (pathIn (now (bytes .entry)) v) (rangeBytes (now (bytes .entry)) key)) (placeOn (setupNow g) rows (when .clock) (when .epoch) (partKey (severalName (v .json)) (pathIn (now (bytes .entry)) v) (rangeBytes (now (bytes .entry)) key))) r) ⌝ }
+    ensures { λ r. ⌜ ((rows : ℕ → Row) → Lent g (now (arena .entry)) rows
+        → PlaceTold (now (arena .entry)) (partKey (severalName (v .json)) (pathIn (now (bytes .entry)) v) (rangeBytes (now (bytes .entry)) key))
+        (placeOn (setupNow g) rows (when .clock) (when .epoch)
+        (partKey (severalName (v .json)) (pathIn (now (bytes .entry)) v) (rangeBytes (now (bytes .entry)) key))) r) ⌝ }
 {
     let text = cursor::bytes_in(bytes, key);
     let path = v.path;

@@ -41,8 +41,10 @@ fn measure_key(
     m: Measured,
     seen: &[u64],
 ) -> Measured
-    requires { ⌜ SeveralIn (now bytes) v × RangeIn (now bytes) key × (length (now bytes) ≤ maxBytes) × Filtered g (now arena) (now seen) × Bounded maxBytes m ⌝ }
-    ensures { λ r. ⌜ ((rows : ℕ → Row) → Lent g (now (arena .entry)) rows → More m (placeAt g rows (when .clock) (when .epoch) (now (bytes .entry)) v key) r) × Grows m r ⌝ }
+    requires { ⌜ SeveralIn (now bytes) v × RangeIn (now bytes) key × (length (now bytes) ≤ maxBytes) × Filtered g (now arena) (now seen)
+        × Bounded maxBytes m ⌝ }
+    ensures { λ r. ⌜ ((rows : ℕ → Row) → Lent g (now (arena .entry)) rows → More m (placeAt g rows (when .clock) (when .epoch) (now (bytes .entry)) v key) r)
+        × Grows m r ⌝ }
 {
     let path = v.path;
     let command = CommandKey::Named(v.json, key, path);
@@ -73,7 +75,8 @@ pub fn measure(
     seen: &[u64],
 ) -> Measured
     requires { ⌜ SeveralIn (now bytes) v × (length (now bytes) ≤ maxBytes) × Filtered g (now arena) (now seen) ⌝ }
-    ensures { λ r. ⌜ ((rows : ℕ → Row) → Lent g (now (arena .entry)) rows → Measures (placesNow g rows (when .clock) (when .epoch) (now (bytes .entry)) v) r) × Bounded (v .keys) r ⌝ }
+    ensures { λ r. ⌜ ((rows : ℕ → Row) → Lent g (now (arena .entry)) rows → Measures (placesNow g rows (when .clock) (when .epoch) (now (bytes .entry)) v) r)
+        × Bounded (v .keys) r ⌝ }
 {
     let mut k = v.args;
     let mut left = v.keys;

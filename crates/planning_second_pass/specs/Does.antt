@@ -82,12 +82,14 @@ module _ (g : Settings) (t e : ℕ) where
     plan-both : (rows : ℕ → Row) → allNodes (setupNow g) rows t e (ask g t) (c ∷ cs) ≡ nodesFor (setupNow g) rows t e (ask g t) c
         ++ allNodes (setupNow g) (behind rows .rows) t e (ask g t) cs
     unfolding allNodes
-    plan-both rows = ap (λ (z : Bytes). nodesFor (setupNow g) rows t e (ask g t) c ++ z) (sym (nodes-after (setupNow g) t e g (wants c (ask g t c)) (before rows) cs))
+    plan-both rows = ap (λ (z : Bytes). nodesFor (setupNow g) rows t e (ask g t) c ++ z)
+        (sym (nodes-after (setupNow g) t e g (wants c (ask g t c)) (before rows) cs))
 
     send-both : (rows : ℕ → Row) → allSent (setupNow g) rows t e (ask g t) (g .mode) (c ∷ cs) ≡ sentFor (setupNow g) rows t e (ask g t) (g .mode) c
         ++ allSent (setupNow g) (behind rows .rows) t e (ask g t) (g .mode) cs
     unfolding allSent
-    send-both rows = ap (λ (z : Bytes). sentFor (setupNow g) rows t e (ask g t) (g .mode) c ++ z) (sym (sent-after (setupNow g) t e g (wants c (ask g t c)) (before rows) cs))
+    send-both rows = ap (λ (z : Bytes). sentFor (setupNow g) rows t e (ask g t) (g .mode) c ++ z)
+        (sym (sent-after (setupNow g) t e g (wants c (ask g t c)) (before rows) cs))
 
     -- one, and then others
     pub does-more : (a₂ d₂ f₂ : Bytes) (x₂ : Progress) → Does cs a₁ d₁ f₁ x₁ a₂ d₂ f₂ x₂ → Does (c ∷ cs) a d f x a₂ d₂ f₂ x₂
@@ -134,7 +136,8 @@ module _ (g : Settings) (t e : ℕ) where
               (room-first _ (nodesFor (setupNow g) R t e (ask g t) c) (allNodes (setupNow g) (behind R .rows) t e (ask g t) cs) (x .to) (length d) (plan-both R)
               (r .plan R h)) (o .plan R h),
           wrote-long f f₁ _ (x .from) (x₁ .from)
-              (room-first _ (sentFor (setupNow g) R t e (ask g t) (g .mode) c) (allSent (setupNow g) (behind R .rows) t e (ask g t) (g .mode) cs) (x .from) (length f) (send-both R)
+              (room-first _ (sentFor (setupNow g) R t e (ask g t) (g .mode) c) (allSent (setupNow g) (behind R .rows) t e (ask g t) (g .mode) cs) (x .from)
+              (length f) (send-both R)
               (r .send R h)) (o .send R h),
         )
 
@@ -145,5 +148,6 @@ module _ (g : Settings) (t e : ℕ) where
   unfolding allNodes allSent
   room-one c cs a d f x r = (
     λ rows h. room-first _ (nodesFor (setupNow g) rows t e (ask g t) c) (allNodes (setupNow g) rows t e (ask g t) cs) (x .to) (length d) refl (r .plan rows h),
-    λ rows h. room-first _ (sentFor (setupNow g) rows t e (ask g t) (g .mode) c) (allSent (setupNow g) rows t e (ask g t) (g .mode) cs) (x .from) (length f) refl (r .send rows h),
+    λ rows h. room-first _ (sentFor (setupNow g) rows t e (ask g t) (g .mode) c) (allSent (setupNow g) rows t e (ask g t) (g .mode) cs) (x .from)
+        (length f) refl (r .send rows h),
   )

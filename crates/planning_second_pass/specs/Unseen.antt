@@ -49,7 +49,8 @@ module _ (p : Setup) (t e : ℕ) where
     sent-after [] = refl
     sent-after (c ∷ cs) = ap₂ _++_ (ap (λ (r : plan.CachingResult). sentBytes (sends (g .mode) c r)) (outcome-after c)) (sent-after cs)
 
-    pub count-after : (cs : List Command) → sentCount p (afterLookups ws bk .rows) t e (ask g t) (g .mode) cs ≡ sentCount p (bk .rows) t e (ask g t) (g .mode) cs
+    pub count-after : (cs : List Command) → sentCount p (afterLookups ws bk .rows) t e (ask g t) (g .mode) cs ≡ sentCount p (bk .rows) t e (ask g t)
+        (g .mode) cs
     unfolding sentCount
     count-after [] = refl
     count-after (c ∷ cs) = ap₂ _+_ (ap (λ (r : plan.CachingResult). length (sends (g .mode) c r)) (outcome-after c)) (count-after cs)

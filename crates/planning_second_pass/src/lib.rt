@@ -1,4 +1,5 @@
-// The second pass of planning: each command's keys are looked up and its nodes written as they are found (crate planning_nodes), and then what is sent for it, its
+// The second pass of planning: each command's keys are looked up and its nodes written as they are found (crate planning_nodes), and then what is
+// sent for it, its
 // missing keys read from those nodes. That this is what the dry pass has measured is specs/Unseen.antt: a planning's lookups change no command's outcome.
 // `seen` is a filter of keys, as in planning_nodes.
 use config::Now;
@@ -39,8 +40,14 @@ fn plan_command(
     x: Progress,
     seen: &[u64],
 ) -> Progress
-    requires { ⌜ dry.One g (when .clock) (now bytes) head × (length (now bytes) ≤ maxBytes) × Filtered g (now arena) (now seen) × ((rows : ℕ → Row) → Lent g (now arena) rows → x .to + length (nodesFor (setupNow g) rows (when .clock) (when .epoch) (ask g (when .clock)) (commandOf (now bytes) head)) ≤ length (now plan)) × ((rows : ℕ → Row) → Lent g (now arena) rows → x .from + length (sentFor (setupNow g) rows (when .clock) (when .epoch) (ask g (when .clock)) (g .mode) (commandOf (now bytes) head)) ≤ length (now send)) × (x .sent + 2 ^ 26 < 2 ^ 64) ⌝ }
-    ensures { λ r. ⌜ One g (when .clock) (when .epoch) (commandOf (now (bytes .entry)) head) (now (arena .entry)) (now (plan .entry)) (now (send .entry)) x (now (arena .exit)) (now (plan .exit)) (now (send .exit)) r × (r .sent ≤ x .sent + 2 ^ 26) ⌝ }
+    requires { ⌜ dry.One g (when .clock) (now bytes) head × (length (now bytes) ≤ maxBytes) × Filtered g (now arena) (now seen)
+        × ((rows : ℕ → Row) → Lent g (now arena) rows → x .to + length
+        (nodesFor (setupNow g) rows (when .clock) (when .epoch) (ask g (when .clock)) (commandOf (now bytes) head)) ≤ length (now plan))
+        × ((rows : ℕ → Row) → Lent g (now arena) rows → x .from + length
+        (sentFor (setupNow g) rows (when .clock) (when .epoch) (ask g (when .clock)) (g .mode) (commandOf (now bytes) head)) ≤ length (now send))
+        × (x .sent + 2 ^ 26 < 2 ^ 64) ⌝ }
+    ensures { λ r. ⌜ One g (when .clock) (when .epoch) (commandOf (now (bytes .entry)) head) (now (arena .entry)) (now (plan .entry)) (now (send .entry)) x
+        (now (arena .exit)) (now (plan .exit)) (now (send .exit)) r × (r .sent ≤ x .sent + 2 ^ 26) ⌝ }
 {
     let before = x.counts;
     let p = planning_nodes::get_cached_cmd(plan, x.to, arena, bytes, head, g, when, before, seen);
@@ -70,8 +77,10 @@ fn plan_each(
     x: Progress,
     seen: &[u64],
 ) -> Progress
-    requires { ⌜ dry.Planable g (when .clock) (now bytes) (k .left) (k .at) × (length (now bytes) ≤ maxBytes) × Filtered g (now arena) (now seen) × Room g (when .clock) (when .epoch) (commandsOf (now bytes) k) (now arena) (now plan) (now send) x × (x .sent + 2 ^ 26 * k .left < 2 ^ 63) ⌝ }
-    ensures { λ r. ⌜ Does g (when .clock) (when .epoch) (commandsOf (now (bytes .entry)) k) (now (arena .entry)) (now (plan .entry)) (now (send .entry)) x (now (arena .exit)) (now (plan .exit)) (now (send .exit)) r × (r .sent ≤ x .sent + 2 ^ 26 * k .left) ⌝ }
+    requires { ⌜ dry.Planable g (when .clock) (now bytes) (k .left) (k .at) × (length (now bytes) ≤ maxBytes) × Filtered g (now arena) (now seen)
+        × Room g (when .clock) (when .epoch) (commandsOf (now bytes) k) (now arena) (now plan) (now send) x × (x .sent + 2 ^ 26 * k .left < 2 ^ 63) ⌝ }
+    ensures { λ r. ⌜ Does g (when .clock) (when .epoch) (commandsOf (now (bytes .entry)) k) (now (arena .entry)) (now (plan .entry)) (now (send .entry)) x
+        (now (arena .exit)) (now (plan .exit)) (now (send .exit)) r × (r .sent ≤ x .sent + 2 ^ 26 * k .left) ⌝ }
 {
     let mut at = k.at;
     let mut left = k.left;
@@ -96,8 +105,10 @@ fn plan_filtered(
     when: Now,
     x: Progress,
 ) -> Progress
-    requires { ⌜ dry.Planable g (when .clock) (now bytes) (k .left) (k .at) × (length (now bytes) ≤ maxBytes) × Arena g (now arena) × Room g (when .clock) (when .epoch) (commandsOf (now bytes) k) (now arena) (now plan) (now send) x × (x .sent + 2 ^ 26 * k .left < 2 ^ 63) ⌝ }
-    ensures { λ r. ⌜ Does g (when .clock) (when .epoch) (commandsOf (now (bytes .entry)) k) (now (arena .entry)) (now (plan .entry)) (now (send .entry)) x (now (arena .exit)) (now (plan .exit)) (now (send .exit)) r × (r .sent ≤ x .sent + 2 ^ 26 * k .left) ⌝ }
+    requires { ⌜ dry.Planable g (when .clock) (now bytes) (k .left) (k .at) × (length (now bytes) ≤ maxBytes) × Arena g (now arena)
+        × Room g (when .clock) (when .epoch) (commandsOf (now bytes) k) (now arena) (now plan) (now send) x × (x .sent + 2 ^ 26 * k .left < 2 ^ 63) ⌝ }
+    ensures { λ r. ⌜ Does g (when .clock) (when .epoch) (commandsOf (now (bytes .entry)) k) (now (arena .entry)) (now (plan .entry)) (now (send .entry)) x
+        (now (arena .exit)) (now (plan .exit)) (now (send .exit)) r × (r .sent ≤ x .sent + 2 ^ 26 * k .left) ⌝ }
 {
     let mut seen = [0u64; 1024];
     key_filter::fill(arena, g, &mut seen);
@@ -115,8 +126,10 @@ pub fn plan_commands(
     when: Now,
     x: Progress,
 ) -> Progress
-    requires { ⌜ dry.Planable g (when .clock) (now bytes) (k .left) (k .at) × (length (now bytes) ≤ maxBytes) × Arena g (now arena) × Room g (when .clock) (when .epoch) (commandsOf (now bytes) k) (now arena) (now plan) (now send) x × (x .sent + 2 ^ 26 * k .left < 2 ^ 63) ⌝ }
-    ensures { λ r. ⌜ Does g (when .clock) (when .epoch) (commandsOf (now (bytes .entry)) k) (now (arena .entry)) (now (plan .entry)) (now (send .entry)) x (now (arena .exit)) (now (plan .exit)) (now (send .exit)) r × (r .sent ≤ x .sent + 2 ^ 26 * k .left) ⌝ }
+    requires { ⌜ dry.Planable g (when .clock) (now bytes) (k .left) (k .at) × (length (now bytes) ≤ maxBytes) × Arena g (now arena)
+        × Room g (when .clock) (when .epoch) (commandsOf (now bytes) k) (now arena) (now plan) (now send) x × (x .sent + 2 ^ 26 * k .left < 2 ^ 63) ⌝ }
+    ensures { λ r. ⌜ Does g (when .clock) (when .epoch) (commandsOf (now (bytes .entry)) k) (now (arena .entry)) (now (plan .entry)) (now (send .entry)) x
+        (now (arena .exit)) (now (plan .exit)) (now (send .exit)) r × (r .sent ≤ x .sent + 2 ^ 26 * k .left) ⌝ }
 {
     if bytes.len() < 2048 {
         let none = [0u64; 0];

@@ -1,6 +1,7 @@
 // What is sent for one command, from its outcome; after `pack_command` (caching/cmd.rs): nothing where it is cached; itself where it is ignored or not
 // cacheable; otherwise `CLIENT CACHING YES` in opt-in mode, and then `PTTL` and the command, or the name with the missing keys and the path and a `PTTL` for
-// each. specs/Sends.antt says which bytes those are. Keys of several that wait are read from their nodes in the plan, or from the record (crate planning_places).
+// each. specs/Sends.antt says which bytes those are. Keys of several that wait are read from their nodes in the plan, or from the record (crate
+// planning_places).
 use config::CacheMode;
 use cursor::Head;
 use cursor::Range;
@@ -19,7 +20,8 @@ ghost use Rattle.cmd.specs.Pack.{blob, blobBytes};
 ghost use Rattle.cmd.specs.Laws.{Wrote};
 ghost use Rattle.planning_ask.specs.Asked.{severalName, pathIn, SeveralIn};
 ghost use Rattle.planning_places.specs.Source.{keysAt, KeysIn};
-ghost use Rattle.planning_send.specs.Sends.{cachingBytes, halfBytes, singleBytes, argumentCount, getName, getWith, severalWith, commandWith, CommandSends, sentWith, ResultSends};
+ghost use Rattle.planning_send.specs.Sends.{cachingBytes, halfBytes, singleBytes, argumentCount, getName};
+ghost use Rattle.planning_send.specs.Sends.{getWith, severalWith, commandWith, CommandSends, sentWith, ResultSends};
 
 // `CLIENT CACHING YES`, in opt-in mode.
 fn write_opt_in(dst: &mut [u8], to: usize, mode: CacheMode) -> usize
@@ -112,7 +114,8 @@ fn write_keys(
     src: &[u8],
     from: Source,
 ) -> usize
-    requires { ⌜ SeveralIn (now bytes) v × (0 < v .keys) × (n ≤ maxBytes) × KeysIn (now src) from (v .keys) × (to + length (getWith (now bytes) v n (keysAt (now src) from (v .keys))) ≤ length (now dst)) ⌝ }
+    requires { ⌜ SeveralIn (now bytes) v × (0 < v .keys) × (n ≤ maxBytes) × KeysIn (now src) from (v .keys)
+        × (to + length (getWith (now bytes) v n (keysAt (now src) from (v .keys))) ≤ length (now dst)) ⌝ }
     ensures { λ r. ⌜ Wrote (now (dst .entry)) to (getWith (now (bytes .entry)) v n (keysAt (now (src .entry)) from (v .keys))) (now (dst .exit)) r ⌝ }
 {
     let first = write_get(dst, to, v.json, n);
@@ -131,7 +134,8 @@ fn write_several(
     src: &[u8],
     from: Source,
 ) -> usize
-    requires { ⌜ SeveralIn (now bytes) v × (0 < v .keys) × (n ≤ maxBytes) × KeysIn (now src) from (v .keys) × (to + length (severalWith (now bytes) v n (keysAt (now src) from (v .keys))) ≤ length (now dst)) ⌝ }
+    requires { ⌜ SeveralIn (now bytes) v × (0 < v .keys) × (n ≤ maxBytes) × KeysIn (now src) from (v .keys)
+        × (to + length (severalWith (now bytes) v n (keysAt (now src) from (v .keys))) ≤ length (now dst)) ⌝ }
     ensures { λ r. ⌜ Wrote (now (dst .entry)) to (severalWith (now (bytes .entry)) v n (keysAt (now (src .entry)) from (v .keys))) (now (dst .exit)) r ⌝ }
 {
     let next = write_keys(dst, to, bytes, v, n, src, from);
@@ -150,7 +154,8 @@ pub fn pack_command(
     src: &[u8],
     from: Source,
 ) -> usize
-    requires { ⌜ ArgsHere (now bytes) (head .args) × CommandSends (now bytes) (now src) from cc × (to + length (commandWith mode (now bytes) head (now src) from cc) ≤ length (now dst)) ⌝ }
+    requires { ⌜ ArgsHere (now bytes) (head .args) × CommandSends (now bytes) (now src) from cc
+        × (to + length (commandWith mode (now bytes) head (now src) from cc) ≤ length (now dst)) ⌝ }
     ensures { λ r. ⌜ Wrote (now (dst .entry)) to (commandWith mode (now (bytes .entry)) head (now (src .entry)) from cc) (now (dst .exit)) r ⌝ }
 {
     let next = write_opt_in(dst, to, mode);
@@ -171,7 +176,8 @@ pub fn write_sent(
     src: &[u8],
     from: Source,
 ) -> usize
-    requires { ⌜ ArgsHere (now bytes) (head .args) × ResultSends (now bytes) (now src) from r × (to + length (sentWith mode (now bytes) head (now src) from r) ≤ length (now dst)) ⌝ }
+    requires { ⌜ ArgsHere (now bytes) (head .args) × ResultSends (now bytes) (now src) from r
+        × (to + length (sentWith mode (now bytes) head (now src) from r) ≤ length (now dst)) ⌝ }
     ensures { λ n. ⌜ Wrote (now (dst .entry)) to (sentWith mode (now (bytes .entry)) head (now (src .entry)) from r) (now (dst .exit)) n ⌝ }
 {
     let args = head.args;

@@ -82,7 +82,8 @@ fn path_len(bytes: &[u8], v: Several) -> usize
 // For several keys, as they were measured: the name with the missing ones and the path, and a `PTTL` for each.
 pub fn several_len(bytes: &[u8], v: Several, m: Measured) -> usize
     requires { ⌜ SeveralIn (now bytes) v × (length (now bytes) ≤ maxBytes) × (0 < v .keys) × Bounded maxBytes m ⌝ }
-    ensures { λ r. ⌜ ((ks : List Bytes) → m .missing ≡ length ks → m .keys ≡ length (blobBytes ks) → r ≡ length (severalWith (now (bytes .entry)) v (m .missing) ks)) × (r ≤ 2 ^ 58) ⌝ }
+    ensures { λ r. ⌜ ((ks : List Bytes) → m .missing ≡ length ks → m .keys ≡ length (blobBytes ks)
+        → r ≡ length (severalWith (now (bytes .entry)) v (m .missing) ks)) × (r ≤ 2 ^ 58) ⌝ }
 {
     let pttls = m.keys + 14 * m.missing;
     get_len(v.json, m.missing) + m.keys + path_len(bytes, v) + pttls

@@ -30,8 +30,10 @@ fn store_one(
     epoch: u64,
     seen: &mut [u64],
 ) -> u64
-    requires { ⌜ Arena g (now arena) × MissedIn (now plan) m × (from ≤ to) × (to ≤ length (now list)) × Storable (keeping (now plan) (now list) m from to) × Filters g (now arena) (now seen) ⌝ }
-    ensures { λ r. ⌜ Stores g epoch (keeping (now (plan .entry)) (now (list .entry)) m from to ∷ []) (now (arena .entry)) (now (arena .exit)) r × (r ≤ 1) × Filters g (now (arena .exit)) (now (seen .exit)) ⌝ }
+    requires { ⌜ Arena g (now arena) × MissedIn (now plan) m × (from ≤ to) × (to ≤ length (now list)) × Storable (keeping (now plan) (now list) m from to)
+        × Filters g (now arena) (now seen) ⌝ }
+    ensures { λ r. ⌜ Stores g epoch (keeping (now (plan .entry)) (now (list .entry)) m from to ∷ []) (now (arena .entry)) (now (arena .exit)) r × (r ≤ 1)
+        × Filters g (now (arena .exit)) (now (seen .exit)) ⌝ }
 {
     let key = m.key;
     let command = m.command;
@@ -59,8 +61,10 @@ fn keep(
     epoch: u64,
     seen: &mut [u64],
 ) -> u64
-    requires { ⌜ Arena g (now arena) × NextIn (now plan) (now list) next × AllStorable (nextStores (now plan) (now list) next) × Filters g (now arena) (now seen) ⌝ }
-    ensures { λ r. ⌜ Stores g epoch (nextStores (now (plan .entry)) (now (list .entry)) next) (now (arena .entry)) (now (arena .exit)) r × (r ≤ 1) × Filters g (now (arena .exit)) (now (seen .exit)) ⌝ }
+    requires { ⌜ Arena g (now arena) × NextIn (now plan) (now list) next × AllStorable (nextStores (now plan) (now list) next)
+        × Filters g (now arena) (now seen) ⌝ }
+    ensures { λ r. ⌜ Stores g epoch (nextStores (now (plan .entry)) (now (list .entry)) next) (now (arena .entry)) (now (arena .exit)) r × (r ≤ 1)
+        × Filters g (now (arena .exit)) (now (seen .exit)) ⌝ }
 {
     match next {
         Next::Plan(_, _) => 0,

@@ -44,7 +44,8 @@ fn has_command(s: &[u8], at: usize, source: &[u8], command: CommandKey, len: usi
 // Where the command key's entry stands in the item at `at`.
 pub fn find_entry(s: &[u8], at: usize, source: &[u8], command: CommandKey) -> Position
     requires { ⌜ ItemAt (now s) at × KeyIn (now source) command ⌝ }
-    ensures { λ r. ⌜ ((front back : Row) (it : Item) → Stands (now (s .entry)) at front back it → r ≡ entryOf at (keyBytes (now (source .entry)) command) it) ⌝ }
+    ensures { λ r. ⌜ ((front back : Row) (it : Item) → Stands (now (s .entry)) at front back it
+        → r ≡ entryOf at (keyBytes (now (source .entry)) command) it) ⌝ }
 {
     let len = command_key::key_len(source, command);
     let end = at + shard::item_len(s, at);
@@ -71,7 +72,8 @@ enum Reading {
 // What the item at `at` has for a lookup.
 fn read_item(s: &[u8], at: usize, source: &[u8], command: CommandKey, when: Now) -> Reading
     requires { ⌜ ItemAt (now s) at × KeyIn (now source) command ⌝ }
-    ensures { λ r. ⌜ ((front back : Row) (it : Item) → Stands (now (s .entry)) at front back it → Reads (when .clock) (when .epoch) (keyBytes (now (source .entry)) command) it r) ⌝ }
+    ensures { λ r. ⌜ ((front back : Row) (it : Item) → Stands (now (s .entry)) at front back it
+        → Reads (when .clock) (when .epoch) (keyBytes (now (source .entry)) command) it r) ⌝ }
 {
     if when.epoch != shard::epoch_of(s, at) {
         return Reading::Stale;
@@ -110,7 +112,8 @@ pub fn counted(counts: Statistics, looked: Looked) -> Statistics
 // What `lookup_in` would answer; nothing changes, and a hit's bytes are those of the shard as it is.
 pub fn peek_in(s: &[u8], key: &[u8], source: &[u8], command: CommandKey, when: Now) -> Looked
     requires { ⌜ Shard (now s) × KeyIn (now source) command ⌝ }
-    ensures { λ r. ⌜ ((row : Row) → Holds (now (s .entry)) row → Told (now (s .entry)) (lookupOn (now (key .entry)) (keyBytes (now (source .entry)) command) (when .clock) (when .epoch) row) r) ⌝ }
+    ensures { λ r. ⌜ ((row : Row) → Holds (now (s .entry)) row
+        → Told (now (s .entry)) (lookupOn (now (key .entry)) (keyBytes (now (source .entry)) command) (when .clock) (when .epoch) row) r) ⌝ }
 {
     let Position::At(at) = shard::find(s, key) else {
         return Looked::Miss(0);
@@ -125,11 +128,17 @@ pub fn peek_in(s: &[u8], key: &[u8], source: &[u8], command: CommandKey, when: N
     }
 }
 
-// Looks the command key's value up under the key: an item that is not current is dropped, another becomes the newest. A hit's bytes are the entry's own, in the row
+// Looks the command key's value up under the key: an item that is not current is dropped, another becomes the newest. A hit's bytes are the entry's
+// own, in the row
 // that is left.
 pub fn lookup_in(s: &mut [u8], key: &[u8], source: &[u8], command: CommandKey, when: Now) -> Looked
     requires { ⌜ Shard (now s) × KeyIn (now source) command ⌝ }
-    ensures { λ r. ⌜ ((row : Row) → Holds (now (s .entry)) row → (now (s .exit) ≡ encShard (length (now (s .entry))) (lookupOn (now (key .entry)) (keyBytes (now (source .entry)) command) (when .clock) (when .epoch) row .row)) × Told (now (s .exit)) (lookupOn (now (key .entry)) (keyBytes (now (source .entry)) command) (when .clock) (when .epoch) row) r × BeginsAt (shardPlace (now (key .entry)) (keyBytes (now (source .entry)) command) (lookupOn (now (key .entry)) (keyBytes (now (source .entry)) command) (when .clock) (when .epoch) row .row)) r) ⌝ }
+    ensures { λ r. ⌜ ((row : Row) → Holds (now (s .entry)) row
+        → (now (s .exit) ≡ encShard (length (now (s .entry)))
+        (lookupOn (now (key .entry)) (keyBytes (now (source .entry)) command) (when .clock) (when .epoch) row .row))
+        × Told (now (s .exit)) (lookupOn (now (key .entry)) (keyBytes (now (source .entry)) command) (when .clock) (when .epoch) row) r
+        × BeginsAt (shardPlace (now (key .entry)) (keyBytes (now (source .entry)) command)
+        (lookupOn (now (key .entry)) (keyBytes (now (source .entry)) command) (when .clock) (when .epoch) row .row)) r) ⌝ }
 {
     let Position::At(at) = shard::find(s, key) else {
         return Looked::Miss(0);

@@ -5,7 +5,7 @@ use Prim.Native.Nat.{ℕ, _≤_}
 use mathlib.Core.Bool.{Bool, cond}
 use lib.ListN.{length}
 use Rattle.buffer.specs.Same.{Bytes}
-use Rattle.config.specs.Limits.{maxKey, maxBytes}
+use Rattle.config.specs.Limits.{maxKey, maxCommandKey, maxBytes}
 use Rattle.book.specs.Book.{Row, Effect, stored, noSpace, find, storedRow, fits, ifFits}
 use Rattle.arena.specs.Layout.{encShard}
 
@@ -25,5 +25,5 @@ pub record Leaves (was left : Bytes) (kept : Bool) (f : Effect) : Type 0 where
 -- what cause 3 leaves of a store's key, command key and value
 pub record Storable (k c v : Bytes) : Type 0 where
   pub key : length k ≤ maxKey
-  pub command : length c ≤ maxBytes
+  pub command : length c ≤ maxCommandKey
   pub value : length v ≤ maxBytes

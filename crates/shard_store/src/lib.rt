@@ -11,7 +11,7 @@ ghost use Prim.Native.Nat.{_≤_};
 ghost use mathlib.Core.List.{List, _∷_, _++_};
 ghost use mathlib.Core.Option.{none};
 ghost use lib.ListN.{length};
-ghost use Rattle.config.specs.Limits.{maxBytes};
+ghost use Rattle.config.specs.Limits.{maxCommandKey, maxBytes};
 ghost use Rattle.book.specs.Book.{Entry, Item, Row, find, newItem, updated, withoutOldest};
 ghost use Rattle.arena.specs.Edit.{placeAfter};
 ghost use Rattle.arena.specs.Pieces.{itemOf};
@@ -45,7 +45,9 @@ fn store_front(
     epoch: u64,
 ) -> bool
     requires { ⌜ Shard (now s) × Storable (now key) (now command) (now value) ⌝ }
-    ensures { λ r. ⌜ ((row : Row) → Holds (now (s .entry)) row → Leaves (now (s .entry)) (now (s .exit)) r (judged (length (now (s .entry))) (newItem (now (key .entry)) (now (command .entry)) (now (value .entry)) expiry epoch ∷ row) row)) ⌝ }
+    ensures { λ r. ⌜ ((row : Row) → Holds (now (s .entry)) row
+        → Leaves (now (s .entry)) (now (s .exit)) r (judged (length (now (s .entry)))
+        (newItem (now (key .entry)) (now (command .entry)) (now (value .entry)) expiry epoch ∷ row) row)) ⌝ }
 {
     let count = buffer::read_u32(s, 0);
     let end = 16 + buffer::read_u32(s, 4) as usize;
@@ -78,7 +80,9 @@ fn store_instead(
     epoch: u64,
 ) -> bool
     requires { ⌜ ItemAt (now s) at × Storable (now key) (now command) (now value) ⌝ }
-    ensures { λ r. ⌜ ((front back : Row) (it : Item) → Stands (now (s .entry)) at front back it → Leaves (now (s .entry)) (now (s .exit)) r (judged (length (now (s .entry))) (newItem (now (key .entry)) (now (command .entry)) (now (value .entry)) expiry epoch ∷ (front ++ back)) (front ++ (it ∷ back)))) ⌝ }
+    ensures { λ r. ⌜ ((front back : Row) (it : Item) → Stands (now (s .entry)) at front back it
+        → Leaves (now (s .entry)) (now (s .exit)) r (judged (length (now (s .entry)))
+        (newItem (now (key .entry)) (now (command .entry)) (now (value .entry)) expiry epoch ∷ (front ++ back)) (front ++ (it ∷ back)))) ⌝ }
 {
     let count = buffer::read_u32(s, 0);
     let left = 16 + buffer::read_u32(s, 4) as usize - shard::item_len(s, at);
@@ -113,8 +117,10 @@ fn store_entry(
     value: &[u8],
     expiry: u64,
 ) -> bool
-    requires { ⌜ Replaceable (now s) at from to added × (length (now command) ≤ maxBytes) × (length (now value) ≤ maxBytes) ⌝ }
-    ensures { λ r. ⌜ ((front back : Row) (it : Item) (ef em eb : List Entry) → Replaces (now (s .entry)) at from to added front back it ef em eb → Leaves (now (s .entry)) (now (s .exit)) r (judged (length (now (s .entry))) (front ++ (itemOf (it .key) (it .epoch) expiry (ef ++ (newEntry (now (command .entry)) (now (value .entry)) ∷ eb)) ∷ back)) (front ++ (it ∷ back)))) ⌝ }
+    requires { ⌜ Replaceable (now s) at from to added × (length (now command) ≤ maxCommandKey) × (length (now value) ≤ maxBytes) ⌝ }
+    ensures { λ r. ⌜ ((front back : Row) (it : Item) (ef em eb : List Entry) → Replaces (now (s .entry)) at from to added front back it ef em eb
+        → Leaves (now (s .entry)) (now (s .exit)) r (judged (length (now (s .entry)))
+        (front ++ (itemOf (it .key) (it .epoch) expiry (ef ++ (newEntry (now (command .entry)) (now (value .entry)) ∷ eb)) ∷ back)) (front ++ (it ∷ back)))) ⌝ }
 {
     let used = buffer::read_u32(s, 4) as usize - (to - from);
     let size = 16 + command.len() + value.len();
@@ -144,8 +150,10 @@ fn store_entry(
 
 // The item at `at` gets the value for the command, and the expiry; it is not moved. False, with nothing changed, where it lacks space.
 fn store_update(s: &mut [u8], at: usize, command: &[u8], value: &[u8], expiry: u64) -> bool
-    requires { ⌜ ItemAt (now s) at × (length (now command) ≤ maxBytes) × (length (now value) ≤ maxBytes) ⌝ }
-    ensures { λ r. ⌜ ((front back : Row) (it : Item) → Stands (now (s .entry)) at front back it → Leaves (now (s .entry)) (now (s .exit)) r (judged (length (now (s .entry))) (front ++ (updated (now (command .entry)) (now (value .entry)) expiry it ∷ back)) (front ++ (it ∷ back)))) ⌝ }
+    requires { ⌜ ItemAt (now s) at × (length (now command) ≤ maxCommandKey) × (length (now value) ≤ maxBytes) ⌝ }
+    ensures { λ r. ⌜ ((front back : Row) (it : Item) → Stands (now (s .entry)) at front back it
+        → Leaves (now (s .entry)) (now (s .exit)) r (judged (length (now (s .entry)))
+        (front ++ (updated (now (command .entry)) (now (value .entry)) expiry it ∷ back)) (front ++ (it ∷ back)))) ⌝ }
 {
     let whole = CommandKey::Part(Range {
         start: 0,
@@ -175,7 +183,9 @@ pub fn store_new(
     epoch: u64,
 ) -> bool
     requires { ⌜ Shard (now s) × Storable (now key) (now command) (now value) × (1 ≤ keys) ⌝ }
-    ensures { λ r. ⌜ ((row : Row) → Holds (now (s .entry)) row → find (now (key .entry)) row ≡ none → Leaves (now (s .entry)) (now (s .exit)) r (storeOn keys (length (now (s .entry))) (now (key .entry)) (now (command .entry)) (now (value .entry)) expiry epoch row)) ⌝ }
+    ensures { λ r. ⌜ ((row : Row) → Holds (now (s .entry)) row → find (now (key .entry)) row ≡ none
+        → Leaves (now (s .entry)) (now (s .exit)) r (storeOn keys (length (now (s .entry))) (now (key .entry)) (now (command .entry))
+        (now (value .entry)) expiry epoch row)) ⌝ }
 {
     if (buffer::read_u32(s, 0) as usize) < keys {
         return store_front(s, key, command, value, expiry, epoch);
@@ -195,7 +205,9 @@ pub fn store_in(
     epoch: u64,
 ) -> bool
     requires { ⌜ Shard (now s) × Storable (now key) (now command) (now value) × (1 ≤ keys) ⌝ }
-    ensures { λ r. ⌜ ((row : Row) → Holds (now (s .entry)) row → Leaves (now (s .entry)) (now (s .exit)) r (storeOn keys (length (now (s .entry))) (now (key .entry)) (now (command .entry)) (now (value .entry)) expiry epoch row)) ⌝ }
+    ensures { λ r. ⌜ ((row : Row) → Holds (now (s .entry)) row
+        → Leaves (now (s .entry)) (now (s .exit)) r (storeOn keys (length (now (s .entry))) (now (key .entry)) (now (command .entry))
+        (now (value .entry)) expiry epoch row)) ⌝ }
 {
     match shard::find(s, key) {
         Position::At(at) => {

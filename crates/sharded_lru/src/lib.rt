@@ -78,7 +78,9 @@ pub fn peek(
     when: Now,
 ) -> Looked
     requires { ⌜ Arena g (now arena) × KeyIn (now source) command ⌝ }
-    ensures { λ r. ⌜ ((rows : ℕ → Row) → Lent g (now (arena .entry)) rows → Told (now (arena .entry)) (effectIn (setupNow g) (lookup (now (key .entry)) (keyBytes (now (source .entry)) command) (when .clock) (when .epoch)) rows) r) ⌝ }
+    ensures { λ r. ⌜ ((rows : ℕ → Row) → Lent g (now (arena .entry)) rows
+        → Told (now (arena .entry)) (effectIn (setupNow g) (lookup (now (key .entry)) (keyBytes (now (source .entry)) command) (when .clock) (when .epoch))
+        rows) r) ⌝ }
 {
     let start = shard_start(g, key);
     let end = start + g.bytes;
@@ -96,7 +98,12 @@ pub fn get(
     when: Now,
 ) -> Looked
     requires { ⌜ Arena g (now arena) × KeyIn (now source) command ⌝ }
-    ensures { λ r. ⌜ ((rows : ℕ → Row) → Lent g (now (arena .entry)) rows → Lent g (now (arena .exit)) (rowsAfter (setupNow g) (on (lookup (now (key .entry)) (keyBytes (now (source .entry)) command) (when .clock) (when .epoch))) rows) × Told (now (arena .exit)) (effectIn (setupNow g) (lookup (now (key .entry)) (keyBytes (now (source .entry)) command) (when .clock) (when .epoch)) rows) r × BeginsAt (arenaPlace (setupNow g) (now (key .entry)) (keyBytes (now (source .entry)) command) (rowsAfter (setupNow g) (on (lookup (now (key .entry)) (keyBytes (now (source .entry)) command) (when .clock) (when .epoch))) rows)) r) ⌝ }
+    ensures { λ r. ⌜ ((rows : ℕ → Row) → Lent g (now (arena .entry)) rows
+        → Lent g (now (arena .exit)) (rowsAfter (setupNow g)
+        (on (lookup (now (key .entry)) (keyBytes (now (source .entry)) command) (when .clock) (when .epoch))) rows)
+        × Told (now (arena .exit)) (effectIn (setupNow g) (lookup (now (key .entry)) (keyBytes (now (source .entry)) command) (when .clock) (when .epoch))
+        rows) r × BeginsAt (arenaPlace (setupNow g) (now (key .entry)) (keyBytes (now (source .entry)) command)
+        (rowsAfter (setupNow g) (on (lookup (now (key .entry)) (keyBytes (now (source .entry)) command) (when .clock) (when .epoch))) rows)) r) ⌝ }
 {
     let start = shard_start(g, key);
     let end = start + g.bytes;
@@ -115,7 +122,9 @@ pub fn insert(
     epoch: u64,
 ) -> bool
     requires { ⌜ Arena g (now arena) × Storable (now key) (now command) (now value) × (isValue (now value) ≡ true) ⌝ }
-    ensures { λ r. ⌜ ((rows : ℕ → Row) → Lent g (now (arena .entry)) rows → Lent g (now (arena .exit)) (rowsAfter (setupNow g) (on (store (now (key .entry)) (now (command .entry)) (now (value .entry)) expiry epoch)) rows) × (cond r stored noSpace ≡ effectIn (setupNow g) (store (now (key .entry)) (now (command .entry)) (now (value .entry)) expiry epoch) rows .answer)) ⌝ }
+    ensures { λ r. ⌜ ((rows : ℕ → Row) → Lent g (now (arena .entry)) rows
+        → Lent g (now (arena .exit)) (rowsAfter (setupNow g) (on (store (now (key .entry)) (now (command .entry)) (now (value .entry)) expiry epoch)) rows)
+        × (cond r stored noSpace ≡ effectIn (setupNow g) (store (now (key .entry)) (now (command .entry)) (now (value .entry)) expiry epoch) rows .answer)) ⌝ }
 {
     let from = shard_start(g, key);
     let to = from + g.bytes;
@@ -141,7 +150,9 @@ pub fn insert_new(
     epoch: u64,
 ) -> bool
     requires { ⌜ Arena g (now arena) × Storable (now key) (now command) (now value) × (isValue (now value) ≡ true) ⌝ }
-    ensures { λ r. ⌜ ((rows : ℕ → Row) → Lent g (now (arena .entry)) rows → find (now (key .entry)) (rows (shardOf (now (key .entry)) (g .shards))) ≡ none → Lent g (now (arena .exit)) (rowsAfter (setupNow g) (on (store (now (key .entry)) (now (command .entry)) (now (value .entry)) expiry epoch)) rows) × (cond r stored noSpace ≡ effectIn (setupNow g) (store (now (key .entry)) (now (command .entry)) (now (value .entry)) expiry epoch) rows .answer)) ⌝ }
+    ensures { λ r. ⌜ ((rows : ℕ → Row) → Lent g (now (arena .entry)) rows → find (now (key .entry)) (rows (shardOf (now (key .entry)) (g .shards))) ≡ none
+        → Lent g (now (arena .exit)) (rowsAfter (setupNow g) (on (store (now (key .entry)) (now (command .entry)) (now (value .entry)) expiry epoch)) rows)
+        × (cond r stored noSpace ≡ effectIn (setupNow g) (store (now (key .entry)) (now (command .entry)) (now (value .entry)) expiry epoch) rows .answer)) ⌝ }
 {
     let a = shard_start(g, key);
     let e = a + g.bytes;
@@ -151,7 +162,9 @@ pub fn insert_new(
 // Drops the key's item, and answers how many entries it had.
 pub fn invalidate(arena: &mut [u8], g: Settings, key: &[u8]) -> usize
     requires { ⌜ Arena g (now arena) ⌝ }
-    ensures { λ r. ⌜ ((rows : ℕ → Row) → Lent g (now (arena .entry)) rows → Lent g (now (arena .exit)) (rowsAfter (setupNow g) (on (invalidate (now (key .entry)))) rows) × (effectIn (setupNow g) (invalidate (now (key .entry))) rows .adds ≡ plus 0 0 r)) ⌝ }
+    ensures { λ r. ⌜ ((rows : ℕ → Row) → Lent g (now (arena .entry)) rows
+        → Lent g (now (arena .exit)) (rowsAfter (setupNow g) (on (invalidate (now (key .entry)))) rows)
+        × (effectIn (setupNow g) (invalidate (now (key .entry))) rows .adds ≡ plus 0 0 r)) ⌝ }
 {
     let at = shard_start(g, key);
     let end = at + g.bytes;
@@ -161,7 +174,8 @@ pub fn invalidate(arena: &mut [u8], g: Settings, key: &[u8]) -> usize
 // Drops every item, and answers how many entries they had.
 pub fn invalidate_all(arena: &mut [u8], g: Settings) -> usize
     requires { ⌜ Arena g (now arena) ⌝ }
-    ensures { λ r. ⌜ ((rows : ℕ → Row) → Lent g (now (arena .entry)) rows → Lent g (now (arena .exit)) (rowsAfter (setupNow g) invalidateAll rows) × (r ≡ allEntries (g .shards) rows)) ⌝ }
+    ensures { λ r. ⌜ ((rows : ℕ → Row) → Lent g (now (arena .entry)) rows → Lent g (now (arena .exit)) (rowsAfter (setupNow g) invalidateAll rows)
+        × (r ≡ allEntries (g .shards) rows)) ⌝ }
 {
     let mut i: usize = 0;
     let mut n: usize = 0;

@@ -26,7 +26,8 @@ use Rattle.planning_ask.specs.declared.Several.{Several}
 use Rattle.sharded_lru.specs.Laws.{sized}
 use Rattle.sharded_lru.specs.Lent.{setupNow, Lent, Arena}
 use Rattle.planning_outcome.specs.Result.{placeOn, placesOn, outcomeFor, severalItem, Tells}
-use Rattle.planning_outcome.specs.Places.{tells-nothing, tells-uncacheable, tells-item, outcome-one, outcome-several, single-miss, several-served, several-missing}
+use Rattle.planning_outcome.specs.Places.{tells-nothing, tells-uncacheable, tells-item, outcome-one}
+use Rattle.planning_outcome.specs.Places.{outcome-several, single-miss, several-served, several-missing}
 use Rattle.planning_outcome.specs.declared.Served.the-variants.{Values}
 use Rattle.planning_outcome.specs.declared.CacheableCommand.the-variants.{Single, Multiple}
 use Rattle.planning_outcome.specs.declared.PrepCacheItem.the-variants.{Cached, NotCached, NotCacheable}
@@ -129,11 +130,13 @@ module _ (g : Settings) (t e : ℕ) (s : Bytes) (h : Head) (l : length s ≤ max
     -- none
     pub waits-none : (f : Source) → v .keys ≡ 0 → Waits g t e s h (record { result = Item (Cached (Values v)); keys = f })
     waits-none f z =
-        waits-told _ (tells-item (setupNow g) noRows t e s [] (ask g t) c _ _ outcome-is (several-served (setupNow g) noRows t e s [] c v i x (v .keys) number z)) tt
+        waits-told _ (tells-item (setupNow g) noRows t e s [] (ask g t) c _ _ outcome-is
+        (several-served (setupNow g) noRows t e s [] c v i x (v .keys) number z)) tt
 
     -- some
     pub waits-several : (v .keys ≡ 0 → ⊥) → Waits g t e s h (record { result = Item (NotCached (Multiple v (v .keys) x)); keys = Keys (v .args) })
     unfolding keysAt KeysIn
     waits-several z =
-        waits-told _ (tells-item (setupNow g) noRows t e s [] (ask g t) c _ _ outcome-is (several-missing (setupNow g) noRows t e s [] c v i x (v .keys) number z))
+        waits-told _ (tells-item (setupNow g) noRows t e s [] (ask g t) c _ _ outcome-is
+        (several-missing (setupNow g) noRows t e s [] c v i x (v .keys) number z))
         (sym (ap keysOf (all-missing g t e (wantedIn s v)) ∙ keys-of (severalName (v .json)) (pathIn s v) (keysIn s v)), (i .here, i .enough))

@@ -128,19 +128,20 @@ module _ (s f a : Bytes) (g : Settings) (k : Commands) (q : k ≡ commandCursor 
 -- ---- the room that was counted down
 
 module _ (f a : Bytes) (g : Settings) (b : Bool) (cs : List Command) (w : ℕ) (x z : Room) (i : w ≡ length (startBytes b) + length (endBytes b))
-    (u : x ≡ spent (whole (length f)) w) (j : (rows : ℕ → Row) → Lent g a rows → z ≡ spent x (length (allSent (setupNow g) rows 0 0 (ask g 0) (g .mode) cs))) where
-  -- is short exactly if the send buffer is
-  pub room-says : (rows : ℕ → Row) → Lent g a rows → z .short ≡ ltb (length f) (length (sendBytes (setupNow g) rows 0 0 g b cs))
-  room-says rows o =
-      ap (λ (r : Room). r .short) (j rows o ∙ ap (λ (r : Room). spent r (length (allSent (setupNow g) rows 0 0 (ask g 0) (g .mode) cs))) u)
-      ∙ send-short (setupNow g) rows 0 0 g b cs (length f) w i
+    (u : x ≡ spent (whole (length f)) w) (j : (rows : ℕ → Row) → Lent g a rows → z ≡ spent x (length (allSent (setupNow g) rows 0 0 (ask g 0) (g .mode) cs)))
+  where
+    -- is short exactly if the send buffer is
+    pub room-says : (rows : ℕ → Row) → Lent g a rows → z .short ≡ ltb (length f) (length (sendBytes (setupNow g) rows 0 0 g b cs))
+    room-says rows o =
+        ap (λ (r : Room). r .short) (j rows o ∙ ap (λ (r : Room). spent r (length (allSent (setupNow g) rows 0 0 (ask g 0) (g .mode) cs))) u)
+        ∙ send-short (setupNow g) rows 0 0 g b cs (length f) w i
 
-  -- so what is sent fits where the room was not short
-  pub room-fits : z .short ≡ false → Fits g a (λ rows. sendBytes (setupNow g) rows 0 0 g b cs) 0 (length f)
-  room-fits q rows o =
-      let S : Bytes = sendBytes (setupNow g) rows 0 0 g b cs in
-      let h : length S ≤ length f = ltb-false (length f) (length S) (sym (room-says rows o) ∙ q) in
-      omega arith
+    -- so what is sent fits where the room was not short
+    pub room-fits : z .short ≡ false → Fits g a (λ rows. sendBytes (setupNow g) rows 0 0 g b cs) 0 (length f)
+    room-fits q rows o =
+        let S : Bytes = sendBytes (setupNow g) rows 0 0 g b cs in
+        let h : length S ≤ length f = ltb-false (length f) (length S) (sym (room-says rows o) ∙ q) in
+        omega arith
 
 -- ---- causes 3 and 2
 

@@ -96,7 +96,8 @@ module _ (g : Settings) (a s : Bytes) (t e : ℕ) where
 
     module _ (d₀ : Bytes) (to₀ m n at x : ℕ) (h : Head) (k : m ≡ n + 1) (i : h ≡ headAt s at) (d : Bytes) (to : ℕ) where
       -- there is room for the first
-      pub writing-room : x ≡ commandNext s at → Writing d₀ to₀ m at d to → Fits g a (λ rows. sentFor (setupNow g) rows t e (ask g t) (g .mode) (commandOf s h)) to (length d)
+      pub writing-room : x ≡ commandNext s at → Writing d₀ to₀ m at d to
+          → Fits g a (λ rows. sentFor (setupNow g) rows t e (ask g t) (g .mode) (commandOf s h)) to (length d)
       writing-room f w =
           λ rows o. room-first (sentAt m at rows) (first m n at x h k i f rows) (sentAt n x rows) to (length d) (sent-more m n at x h k i f rows)
           (w .room rows o)

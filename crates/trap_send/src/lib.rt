@@ -120,9 +120,11 @@ fn write_command(
     when: Now,
 ) -> usize
     requires { ⌜ One g (when .clock) (now bytes) head × (length (now bytes) ≤ maxBytes) × Arena g (now arena)
-        × Fits g (now arena) (λ rows. sentFor (setupNow g) rows (when .clock) (when .epoch) (ask g (when .clock)) (g .mode) (commandOf (now bytes) head)) to (length (now out))
+        × Fits g (now arena) (λ rows. sentFor (setupNow g) rows (when .clock) (when .epoch) (ask g (when .clock)) (g .mode) (commandOf (now bytes) head)) to
+        (length (now out))
         × Blank g (now arena) ⌝ }
-    ensures { λ r. ⌜ Puts g (now (arena .entry)) (λ rows. sentFor (setupNow g) rows (when .clock) (when .epoch) (ask g (when .clock)) (g .mode) (commandOf (now (bytes .entry)) head))
+    ensures { λ r. ⌜ Puts g (now (arena .entry)) (λ rows. sentFor (setupNow g) rows (when .clock) (when .epoch) (ask g (when .clock)) (g .mode)
+        (commandOf (now (bytes .entry)) head))
         (now (out .entry)) to (now (out .exit)) r ⌝ }
 {
     let mode = g.mode;
@@ -161,9 +163,11 @@ fn write_commands(
     when: Now,
 ) -> usize
     requires { ⌜ Planable g (when .clock) (now bytes) (k .left) (k .at) × (length (now bytes) ≤ maxBytes) × Arena g (now arena)
-        × Fits g (now arena) (λ rows. allSent (setupNow g) rows (when .clock) (when .epoch) (ask g (when .clock)) (g .mode) (commandsOf (now bytes) k)) to (length (now out))
+        × Fits g (now arena) (λ rows. allSent (setupNow g) rows (when .clock) (when .epoch) (ask g (when .clock)) (g .mode) (commandsOf (now bytes) k)) to
+        (length (now out))
         × Blank g (now arena) ⌝ }
-    ensures { λ r. ⌜ Puts g (now (arena .entry)) (λ rows. allSent (setupNow g) rows (when .clock) (when .epoch) (ask g (when .clock)) (g .mode) (commandsOf (now (bytes .entry)) k))
+    ensures { λ r. ⌜ Puts g (now (arena .entry)) (λ rows. allSent (setupNow g) rows (when .clock) (when .epoch) (ask g (when .clock)) (g .mode)
+        (commandsOf (now (bytes .entry)) k))
         (now (out .entry)) to (now (out .exit)) r ⌝ }
 {
     let mut at = k.at;
@@ -191,7 +195,8 @@ fn write_pipeline(
     requires { ⌜ Planable g (when .clock) (now bytes) (k .left) (k .at) × (length (now bytes) ≤ maxBytes) × Arena g (now arena)
         × Fits g (now arena) (λ rows. sendBytes (setupNow g) rows (when .clock) (when .epoch) g transaction (commandsOf (now bytes) k)) 0 (length (now out))
         × Blank g (now arena) ⌝ }
-    ensures { λ r. ⌜ Puts g (now (arena .entry)) (λ rows. sendBytes (setupNow g) rows (when .clock) (when .epoch) g transaction (commandsOf (now (bytes .entry)) k))
+    ensures { λ r. ⌜ Puts g (now (arena .entry)) (λ rows. sendBytes (setupNow g) rows (when .clock) (when .epoch) g transaction
+        (commandsOf (now (bytes .entry)) k))
         (now (out .entry)) 0 (now (out .exit)) r ⌝ }
 {
     let from = planning_send_len::write_start(out, 0, transaction);

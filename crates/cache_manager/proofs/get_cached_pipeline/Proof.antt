@@ -49,9 +49,10 @@ same-length-4 c = search needs
 
 returns-2 : tie.Need-returns-2
 returns-2 c =
-    λ next. let a = c .before .before .before .before .before .before .before .before .before .before .before .before .before .before .before .before .before .before .before .args in
+    let c₉ = c .before .before .before .before .before .before .before .before .before in
+    λ next. let a = c₉ .before .before .before .before .before .before .before .before .before .before .args in
     let d = admits (a .size) (a .mode) (a .ttl) (a .arena .now) _
-    (sym (c .before .before .before .before .before .before .before .before .before .before .before .before .before .admit .ensures)
+    (sym (c₉ .before .before .before .before .admit .ensures)
     ∙ c .before .before .before .before .before .before .before .before .before .before .before .g .given .1) in
     rw (laws.call-admitted (a .size) (a .mode) (a .ttl) (a .when .clock) (a .when .epoch) (a .bytes .now) (a .plan .now) (a .send .now)
     (holding (a .arena .now) (countsOf (a .counts)) next) _ _ (d .fine) (d .read))

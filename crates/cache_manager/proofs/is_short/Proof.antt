@@ -30,7 +30,8 @@ returns c = λ rows o.
     let a = c .before .before .before .before .before .before .args in
     let C = commandsAt (a .bytes .now) (a .k .left) (a .k .at) in
     c .dry-pass .ensures rows o
-    ∙ ap₂ (λ (x : Room) (y : Room). spent x (length (allNodes (setupNow (a .g)) rows (a .when .clock) (a .when .epoch) (ask (a .g) (a .when .clock)) C)) .short || spent y
+    ∙ ap₂ (λ (x : Room) (y : Room). spent x (length (allNodes (setupNow (a .g)) rows (a .when .clock) (a .when .epoch)
+    (ask (a .g) (a .when .clock)) C)) .short || spent y
     (length (allSent (setupNow (a .g)) rows (a .when .clock) (a .when .epoch) (ask (a .g) (a .when .clock)) (a .g .mode) C)) .short)
     (c .before .before .before .spend .ensures) (c .before .spend2 .ensures)
     ∙ ap₂ _||_ (laws.plan-short (setupNow (a .g)) rows (a .when .clock) (a .when .epoch) (a .g) (a .transaction) C (a .plan))

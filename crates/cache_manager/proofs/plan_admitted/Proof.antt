@@ -16,7 +16,8 @@ returns : tie.Need-returns
 returns c =
     λ rows next o. let a = c .before .before .before .before .before .before .args in
     laws.leaves-all (a .when .clock) (a .when .epoch) (a .bytes .now) (a .plan .now) (a .send .now) (a .arena .now) (a .counts) next _ _ _
-    (laws.too-long (a .when .clock) (a .when .epoch) (a .bytes .now) (a .plan .now) (a .send .now) (holding (a .arena .now) (countsOf (a .counts)) next) (a .g) rows
+    (laws.too-long (a .when .clock) (a .when .epoch) (a .bytes .now) (a .plan .now) (a .send .now) (holding (a .arena .now) (countsOf (a .counts)) next)
+    (a .g) rows
     (c .before .if1 .taken)) (ap returnedOf (c .refused .ensures .0)) (c .refused .ensures .1)
 
 check-requires : tie.Need-check-requires
@@ -40,7 +41,8 @@ returns-2 : tie.Need-returns-2
 returns-2 c =
     λ rows next o. let a = c .before .before .before .before .before .before .before .before .before .args in
     laws.leaves-all (a .when .clock) (a .when .epoch) (a .bytes .now) (a .plan .now) (a .send .now) (a .arena .now) (a .counts) next _ _ _
-    (laws.bad-record (a .when .clock) (a .when .epoch) (a .bytes .now) (a .plan .now) (a .send .now) (holding (a .arena .now) (countsOf (a .counts)) next) (a .g) rows
+    (laws.bad-record (a .when .clock) (a .when .epoch) (a .bytes .now) (a .plan .now) (a .send .now) (holding (a .arena .now) (countsOf (a .counts)) next)
+    (a .g) rows
     (omega arith) _ (sym (c .before .before .before .check .ensures) ∙ c .before .o .given .1)) refl refl
 
 same-length : tie.Need-same-length
@@ -54,9 +56,11 @@ same-length-3 c = search needs
 
 returns-3 : tie.Need-returns-3
 returns-3 c =
-    λ rows next o. let a = c .before .before .before .before .before .before .before .before .before .before .before .before .before .before .before .before .before .before .args in
-    rw (laws.good-record (a .when .clock) (a .when .epoch) (a .bytes .now) (a .plan .now) (a .send .now) (holding (a .arena .now) (countsOf (a .counts)) next) (a .g) rows
-    (omega arith) (sym (c .before .before .before .before .before .before .before .before .before .before .before .before .check .ensures)
+    let c₉ = c .before .before .before .before .before .before .before .before .before in
+    λ rows next o. let a = c₉ .before .before .before .before .before .before .before .before .before .args in
+    rw (laws.good-record (a .when .clock) (a .when .epoch) (a .bytes .now) (a .plan .now) (a .send .now)
+    (holding (a .arena .now) (countsOf (a .counts)) next) (a .g) rows
+    (omega arith) (sym (c₉ .before .before .before .check .ensures)
     ∙ c .before .before .before .before .before .before .before .before .before .before .enum-told .given .1))
     (c .before .before .before .before .before .before .plan-record .ensures rows next o)
 

@@ -88,15 +88,16 @@ same-length-4 c = search needs
 
 returns-3 : tie.Need-returns-3
 returns-3 c =
-    λ rows next o. let w = c .before .before .before .before .before .before .before .before .before .before .before .before .before .before .before .before .before .before .before .before .before .pre in
-    let a = c .before .before .before .before .before .before .before .before .before .before .before .before .before .before .before .before .before .before .before .before .before .args in
+    let c₉ = c .before .before .before .before .before .before .before .before .before in
+    λ rows next o. let w = c₉ .before .before .before .before .before .before .before .before .before .before .before .before .pre in
+    let a = c₉ .before .before .before .before .before .before .before .before .before .before .before .before .args in
     laws.record-done (a .when .clock) (a .when .epoch) (a .bytes .now) (a .plan .now) (a .send .now) (a .arena .now) (a .g) _ (a .counts)
-    (c .before .before .before .before .before .before .before .before .before .before .before .before .before .before .before .before .commands-of .ensures)
+    (c₉ .before .before .before .before .before .before .before .commands-of .ensures)
     (fit (a .bytes .now) (w .2)) rows next _ _
-    (c .before .before .before .before .before .before .before .before .before .before .before .before .before .is-transaction .ensures)
-    (sym (c .before .before .before .before .before .before .before .before .before .before .before .before .before .before .before .any-late .ensures)
-    ∙ c .before .before .before .before .before .before .before .before .before .before .before .before .before .before .if1 .left)
-    (sym (c .before .before .before .before .before .before .before .before .before .before .before .is-short .ensures rows o)
+    (c₉ .before .before .before .before .is-transaction .ensures)
+    (sym (c₉ .before .before .before .before .before .before .any-late .ensures)
+    ∙ c₉ .before .before .before .before .before .if1 .left)
+    (sym (c₉ .before .before .is-short .ensures rows o)
     ∙ c .before .before .before .before .before .before .before .before .before .before .if2 .left) _ _ _
     (c .before .before .before .before .before .arena .given)
     (c .before .before .before .before .before .before .write-pipeline .ensures (bookOf rows (holding (a .arena .now) (countsOf (a .counts)) next))

@@ -23,7 +23,8 @@ write-start-requires : tie.Need-write-start-requires
 write-start-requires c κs =
     let w = c .before .before .before .before .before .before .before .before .before .pre in
     let a = c .before .before .before .before .before .before .before .before .before .args in
-    laws.start-fits (a .g) (a .when .clock) (a .when .epoch) (a .transaction) (commandsAt (a .bytes .now) (a .k .left) (a .k .at)) (a .arena .now) (a .plan .now)
+    laws.start-fits (a .g) (a .when .clock) (a .when .epoch) (a .transaction) (commandsAt (a .bytes .now) (a .k .left) (a .k .at)) (a .arena .now)
+    (a .plan .now)
     (a .send .now) (w .4) (w .2)
 
 plan-commands-requires : tie.Need-plan-commands-requires
@@ -43,18 +44,21 @@ plan-commands-requires c κs =
 
 write-end-requires : tie.Need-write-end-requires
 write-end-requires c κs =
-    let w = c .before .before .before .before .before .before .before .before .before .before .before .before .before .before .before .before .before .before .before .before .before .before .before .pre in
-    let a = c .before .before .before .before .before .before .before .before .before .before .before .before .before .before .before .before .before .before .before .before .before .before .before .args in
+    let c₉ = c .before .before .before .before .before .before .before .before .before in
+    let w = c₉ .before .before .before .before .before .before .before .before .before .before .before .before .before .before .pre in
+    let a = c₉ .before .before .before .before .before .before .before .before .before .before .before .before .before .before .args in
     laws.end-room (a .g) (a .when .clock) (a .when .epoch) (a .transaction) (commandsAt (a .bytes .now) (a .k .left) (a .k .at)) (a .arena .now) (a .plan .now)
     (a .send .now) _ _ _ _ (a .k .left) (a .counts) (commands-count (a .bytes .now) (a .k .left) (a .k .at))
-    (c .before .before .before .before .before .before .before .before .before .before .before .before .before .before .before .before .before .write-plan-head .ensures)
-    (c .before .before .before .before .before .before .before .before .before .before .before .before .before .write-start .ensures) (w .4) _ _ _ _
+    (c₉ .before .before .before .before .before .before .before .before .write-plan-head .ensures)
+    (c₉ .before .before .before .before .write-start .ensures) (w .4) _ _ _ _
     (c .before .before .before .before .before .before .before .plan-commands .ensures .0) (w .2)
 
 written-of-requires : tie.Need-written-of-requires
 written-of-requires c κs =
-    let b = c .before .before .before .before .before .before .before .before .before .before .before .plan-commands .ensures .1 in
-    let k = c .before .before .before .before .before .before .before .before .before .before .before .before .before .before .before .before .before .before .before .before .before .before .before .before .before .before .before .pre .3 in
+    let c₉ = c .before .before .before .before .before .before .before .before .before in
+    let c₁₈ = c₉ .before .before .before .before .before .before .before .before .before in
+    let b = c₉ .before .before .plan-commands .ensures .1 in
+    let k = c₁₈ .before .before .before .before .before .before .before .before .before .pre .3 in
     omega arith
 
 same-length : tie.Need-same-length
@@ -68,13 +72,15 @@ same-length-3 c = search needs
 
 returns : tie.Need-returns
 returns c =
-    let w = c .before .before .before .before .before .before .before .before .before .before .before .before .before .before .before .before .before .before .before .before .before .before .before .before .before .before .before .before .pre in
-    let a = c .before .before .before .before .before .before .before .before .before .before .before .before .before .before .before .before .before .before .before .before .before .before .before .before .before .before .before .before .args in
+    let c₉ = c .before .before .before .before .before .before .before .before .before in
+    let c₁₈ = c₉ .before .before .before .before .before .before .before .before .before in
+    let w = c₁₈ .before .before .before .before .before .before .before .before .before .before .pre in
+    let a = c₁₈ .before .before .before .before .before .before .before .before .before .before .args in
     laws.passed (a .g) (a .when .clock) (a .when .epoch) (a .transaction) (commandsAt (a .bytes .now) (a .k .left) (a .k .at)) (a .arena .now) (a .plan .now)
     (a .send .now) _ _ _ _ (a .k .left) (a .counts) (commands-count (a .bytes .now) (a .k .left) (a .k .at))
-    (c .before .before .before .before .before .before .before .before .before .before .before .before .before .before .before .before .before .before .before .before .before .before .write-plan-head .ensures)
-    (c .before .before .before .before .before .before .before .before .before .before .before .before .before .before .before .before .before .before .write-start .ensures)
-    (w .4) _ _ _ _ (c .before .before .before .before .before .before .before .before .before .before .before .before .plan-commands .ensures .0) _ _ _
+    (c₁₈ .before .before .before .before .write-plan-head .ensures)
+    (c₉ .before .before .before .before .before .before .before .before .before .write-start .ensures)
+    (w .4) _ _ _ _ (c₉ .before .before .before .plan-commands .ensures .0) _ _ _
     (c .before .before .before .before .write-end .ensures) (ap Done (c .written-of .ensures)) refl
 
 pub write-pipeline-spec : {M : Type 1} → statement M

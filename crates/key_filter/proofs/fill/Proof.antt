@@ -52,7 +52,11 @@ part-note-shard-end c =
 
 note-shard-requires : tie.Need-note-shard-requires Inv-loop μ-loop
 note-shard-requires c κs =
-    record { row = _; holds = lent-holds _ _ _ (c .before .before .before .before .before .before .before .before .before .pre .lent) (c .before .before .before .before .before .before .loop .i) _ (c .before .before .before .before .if1 .taken) refl }
+    record {
+      row = _;
+      holds = lent-holds _ _ _ (c .before .before .before .before .before .before .before .before .before .pre .lent)
+          (c .before .before .before .before .before .before .loop .i) _ (c .before .before .before .before .if1 .taken) refl;
+    }
 
 add-i : tie.Need-add-i Inv-loop μ-loop
 add-i c =

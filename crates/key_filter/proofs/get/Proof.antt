@@ -15,8 +15,13 @@ returns : tie.Need-returns
 returns c rows l =
     let a = c .before .before .before .before .before .before .args in
     let d = keyBytes (a .source .now) (a .command) in
-    let n = filters-absent (a .g) _ _ _ (c .before .before .before .before .before .before .pre .0 .filters) (sym (c .before .may-hold .ensures) ∙ not-true _ (c .if1 .taken)) rows l in
-    (absent-lent (a .g) (a .arena .now) rows _ d (a .when .clock) (a .when .epoch) n l, absent-told (a .g) (a .arena .now) rows _ d (a .when .clock) (a .when .epoch) n, tt)
+    let n = filters-absent (a .g) _ _ _ (c .before .before .before .before .before .before .pre .0 .filters)
+    (sym (c .before .may-hold .ensures) ∙ not-true _ (c .if1 .taken)) rows l in (
+      absent-lent (a .g) (a .arena .now) rows _ d (a .when .clock) (a .when .epoch) n l,
+      absent-told (a .g) (a .arena .now) rows _ d (a .when .clock)
+          (a .when .epoch) n,
+      tt,
+    )
 
 get-requires : tie.Need-get-requires
 get-requires c κs = search needs

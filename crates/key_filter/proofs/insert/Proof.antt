@@ -49,7 +49,9 @@ returns-2 c =
     let a = c .before .before .before .before .before .before .before .before .before .before .before .before .before .before .before .before .args in
     let p = c .before .before .before .before .before .before .before .before .before .before .before .before .before .before .before .before .pre in
     let n = c .before .before .before .before .before .before .note .ensures in
-    let clear = filters-absent (a .g) _ _ (a .key .now) (p .3) (sym (c .before .before .before .before .before .before .before .before .before .may-hold .ensures) ∙ c .before .before .before .before .before .before .before .before .if1 .left) in
+    let clear = filters-absent (a .g) _ _ (a .key .now) (p .3)
+    (sym (c .before .before .before .before .before .before .before .before .before .may-hold .ensures)
+    ∙ c .before .before .before .before .before .before .before .before .if1 .left) in
     let f = c .before .before .insert-new .ensures in (
       λ rows l. f rows l (clear rows l),
       filters-after (a .g) _ _ _ (store (a .key .now) (a .command .now) (a .value .now) (a .expiry) (a .epoch)) (p .0)

@@ -54,7 +54,8 @@ same-length c = search needs
 returns : tie.Need-returns
 returns c front back it w =
     c .before .before .note .ensures
-    ∙ ap (λ (k : Bytes). setBit (c .before .before .before .before .before .before .before .before .args .seen .now) (bitOf k)) (key-part _ _ _ front back it w (c .before .before .before .before .before .read-u32 .ensures))
+    ∙ ap (λ (k : Bytes). setBit (c .before .before .before .before .before .before .before .before .args .seen .now) (bitOf k))
+    (key-part _ _ _ front back it w (c .before .before .before .before .before .read-u32 .ensures))
 
 pub note-item-spec : {M : Type 1} → statement M
 note-item-spec =

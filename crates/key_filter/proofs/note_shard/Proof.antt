@@ -42,7 +42,8 @@ note-item-requires : tie.Need-note-item-requires Inv-loop μ-loop
 note-item-requires c κs = let h = c .before .before .before .before .before .before .pre .holds in there h (look (c .before) _ h)
 
 item-len-requires : tie.Need-item-len-requires Inv-loop μ-loop
-item-len-requires c κs = let h = c .before .before .before .before .before .before .before .before .before .pre .holds in there h (look (c .before .before .before .before) _ h)
+item-len-requires c κs = let h = c .before .before .before .before .before .before .before .before .before .pre .holds in there h
+    (look (c .before .before .before .before) _ h)
 
 add-at : tie.Need-add-at Inv-loop μ-loop
 add-at c =

@@ -13,7 +13,11 @@ slice-aggregate-dry-each : tie.Need-slice-aggregate-dry-each
 slice-aggregate-dry-each c = search needs
 
 dry-each-requires : tie.Need-dry-each-requires
-dry-each-requires c κs = let p = c .before .before .before .before .before .before .pre in (p .0, p .1, record { arena = p .2; filters = c .before .before .fill .ensures })
+dry-each-requires c κs = let p = c .before .before .before .before .before .before .pre in (
+  p .0,
+  p .1,
+  record { arena = p .2; filters = c .before .before .fill .ensures },
+)
 
 returns : tie.Need-returns
 returns c = c .dry-each .ensures

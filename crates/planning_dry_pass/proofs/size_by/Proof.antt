@@ -54,7 +54,8 @@ returns c =
     let w = subst (λ (r : Asked). (askedOf (a .bytes .now) r ≡ ask (a .g) (a .when .clock) (commandOf (a .bytes .now) (a .head))) × AskedIn (a .bytes .now) r)
     (c .before .enum-told .given .1) (c .before .before .before .ask .ensures) in
     λ rows o.
-    sized-is (a .g) rows (a .when .clock) (a .when .epoch) _ _ _ (places.outcome-nothing (setupNow (a .g)) rows (a .when .clock) (a .when .epoch) (ask (a .g) (a .when .clock)) _ (sym (w .0)))
+    sized-is (a .g) rows (a .when .clock) (a .when .epoch) _ _ _
+    (places.outcome-nothing (setupNow (a .g)) rows (a .when .clock) (a .when .epoch) (ask (a .g) (a .when .clock)) _ (sym (w .0)))
     (c .size-own .ensures (a .g .mode) .0)
 
 returns-2 : tie.Need-returns-2
@@ -63,7 +64,8 @@ returns-2 c =
     let w = subst (λ (r : Asked). (askedOf (a .bytes .now) r ≡ ask (a .g) (a .when .clock) (commandOf (a .bytes .now) (a .head))) × AskedIn (a .bytes .now) r)
     (c .before .enum-told2 .given .1) (c .before .before .before .ask .ensures) in
     λ rows o.
-    sized-is (a .g) rows (a .when .clock) (a .when .epoch) _ _ _ (places.outcome-uncacheable (setupNow (a .g)) rows (a .when .clock) (a .when .epoch) (ask (a .g) (a .when .clock)) _ (sym (w .0)))
+    sized-is (a .g) rows (a .when .clock) (a .when .epoch) _ _ _
+    (places.outcome-uncacheable (setupNow (a .g)) rows (a .when .clock) (a .when .epoch) (ask (a .g) (a .when .clock)) _ (sym (w .0)))
     (c .size-own2 .ensures (a .g .mode) .1)
 
 returns-3 : tie.Need-returns-3
@@ -72,7 +74,8 @@ returns-3 c =
     let w = subst (λ (r : Asked). (askedOf (a .bytes .now) r ≡ ask (a .g) (a .when .clock) (commandOf (a .bytes .now) (a .head))) × AskedIn (a .bytes .now) r)
     (c .before .before .key .given .1) (c .before .before .before .before .ask .ensures) in
     λ rows o.
-    sized-is (a .g) rows (a .when .clock) (a .when .epoch) _ _ _ (places.outcome-one (setupNow (a .g)) rows (a .when .clock) (a .when .epoch) (ask (a .g) (a .when .clock)) _ _ _ (sym (w .0)))
+    sized-is (a .g) rows (a .when .clock) (a .when .epoch) _ _ _
+    (places.outcome-one (setupNow (a .g)) rows (a .when .clock) (a .when .epoch) (ask (a .g) (a .when .clock)) _ _ _ (sym (w .0)))
     (c .size-one .ensures rows o _)
 
 returns-4 : tie.Need-returns-4
@@ -82,7 +85,8 @@ returns-4 c =
     (c .before .before .v .given .1) (c .before .before .before .before .ask .ensures) in
     λ rows o.
     sized-is (a .g) rows (a .when .clock) (a .when .epoch) _ _ _
-    (places.outcome-several (setupNow (a .g)) rows (a .when .clock) (a .when .epoch) (ask (a .g) (a .when .clock)) _ (a .bytes .now) (c .before .before .v .given .0 .0) _ (sym (w .0)))
+    (places.outcome-several (setupNow (a .g)) rows (a .when .clock) (a .when .epoch) (ask (a .g) (a .when .clock)) _ (a .bytes .now)
+    (c .before .before .v .given .0 .0) _ (sym (w .0)))
     (c .size-several .ensures rows o _ _)
 
 pub size-by-spec : {M : Type 1} → statement M

@@ -80,7 +80,8 @@ returns-2 c =
     let ks = keysOf (missing (placesNow (a .g) rows (a .when .clock) (a .when .epoch) (a .bytes .now) (a .v))) in
     laws.size-missing (a .g .mode) d (a .bytes .now) (a .v) _ x (c .before .before .before .before .before .measure .result) m (p .0) e (omega arith) _ _
     (c .before .opt-in-len .ensures .0)
-    (c .several-len .ensures .0 ks (m .number ∙ sym (keys-length (missing (placesNow (a .g) rows (a .when .clock) (a .when .epoch) (a .bytes .now) (a .v))))) (m .keys))
+    (c .several-len .ensures .0 ks (m .number ∙ sym (keys-length (missing (placesNow (a .g) rows (a .when .clock) (a .when .epoch) (a .bytes .now) (a .v)))))
+    (m .keys))
 
 pub size-several-spec : {M : Type 1} → statement M
 size-several-spec =

@@ -29,7 +29,8 @@ write-bare-requires c κs =
     let q = p .3 .arena in
     let rows = q .rows in
     room-is _ _ _ _ (ap nodesAs
-    (places.outcome-nothing (setupNow (a .g)) rows (a .when .clock) (a .when .epoch) (ask (a .g) (a .when .clock)) (commandOf (a .bytes .now) (a .head)) (sym (w .0))) ∙ nodes-ignored)
+    (places.outcome-nothing (setupNow (a .g)) rows (a .when .clock) (a .when .epoch) (ask (a .g) (a .when .clock)) (commandOf (a .bytes .now) (a .head))
+    (sym (w .0))) ∙ nodes-ignored)
     (p .4 rows (q .lent))
 
 enum-told-2 : tie.Need-enum-told-2
@@ -44,7 +45,8 @@ write-bare-requires-2 c κs =
     let q = p .3 .arena in
     let rows = q .rows in
     room-is _ _ _ _ (ap nodesAs
-    (places.outcome-uncacheable (setupNow (a .g)) rows (a .when .clock) (a .when .epoch) (ask (a .g) (a .when .clock)) (commandOf (a .bytes .now) (a .head)) (sym (w .0)))
+    (places.outcome-uncacheable (setupNow (a .g)) rows (a .when .clock) (a .when .epoch) (ask (a .g) (a .when .clock)) (commandOf (a .bytes .now) (a .head))
+    (sym (w .0)))
     ∙ nodes-not-cacheable) (p .4 rows (q .lent))
 
 enum-known-key : tie.Need-enum-known-key
@@ -61,7 +63,8 @@ write-one-requires c κs =
       p .2,
       p .3,
       λ rows o. room-is _ _ _ _
-          (ap nodesAs (places.outcome-one (setupNow (a .g)) rows (a .when .clock) (a .when .epoch) (ask (a .g) (a .when .clock)) (commandOf (a .bytes .now) (a .head)) _ _ (sym (w .0))))
+          (ap nodesAs (places.outcome-one (setupNow (a .g)) rows (a .when .clock) (a .when .epoch) (ask (a .g) (a .when .clock))
+          (commandOf (a .bytes .now) (a .head)) _ _ (sym (w .0))))
           (p .4 rows o),
     )
 
@@ -78,7 +81,8 @@ write-several-requires c κs =
       p .2,
       p .3,
       λ rows o. room-is _ _ _ _
-          (ap nodesAs (places.outcome-several (setupNow (a .g)) rows (a .when .clock) (a .when .epoch) (ask (a .g) (a .when .clock)) (commandOf (a .bytes .now) (a .head)) (a .bytes .now)
+          (ap nodesAs (places.outcome-several (setupNow (a .g)) rows (a .when .clock) (a .when .epoch) (ask (a .g) (a .when .clock))
+          (commandOf (a .bytes .now) (a .head)) (a .bytes .now)
           (c .before .before .before .v .given .0 .0) _ (sym (w .0)))) (p .4 rows o),
     )
 
@@ -95,7 +99,8 @@ returns c =
       looks.wants-nothing (a .g) (a .when .clock) (a .when .epoch) d (a .arena .now) (a .arena .now) (a .counts) (a .counts) (sym (w .0)),
       λ rows o.
           laws.prepares-as _ _ _ _ _ _ _ _ _ _ _ _ _
-          (places.outcome-nothing (setupNow (a .g)) rows (a .when .clock) (a .when .epoch) (ask (a .g) (a .when .clock)) (commandOf (a .bytes .now) (a .head)) (sym (w .0)))
+          (places.outcome-nothing (setupNow (a .g)) rows (a .when .clock) (a .when .epoch) (ask (a .g) (a .when .clock))
+          (commandOf (a .bytes .now) (a .head)) (sym (w .0)))
           (laws.prepares-ignored _ _ _ _ _ _ _ _ _ _ _ _ (c .before .before .write-bare .ensures)),
     )
 
@@ -112,7 +117,8 @@ returns-2 c =
       looks.wants-uncacheable (a .g) (a .when .clock) (a .when .epoch) d (a .arena .now) (a .arena .now) (a .counts) (a .counts) (sym (w .0)),
       λ rows o.
           laws.prepares-as _ _ _ _ _ _ _ _ _ _ _ _ _
-          (places.outcome-uncacheable (setupNow (a .g)) rows (a .when .clock) (a .when .epoch) (ask (a .g) (a .when .clock)) (commandOf (a .bytes .now) (a .head)) (sym (w .0)))
+          (places.outcome-uncacheable (setupNow (a .g)) rows (a .when .clock) (a .when .epoch) (ask (a .g) (a .when .clock))
+          (commandOf (a .bytes .now) (a .head)) (sym (w .0)))
           (laws.prepares-not-cacheable _ _ _ _ _ _ _ _ _ _ _ _ (c .before .before .write-bare2 .ensures)),
     )
 
@@ -134,7 +140,8 @@ returns-3 c =
       looks.wants-one (a .g) (a .when .clock) (a .when .epoch) d (a .arena .now) _ (a .counts) _ _ _ (sym (w .0)) (r .0),
       λ rows o.
           laws.prepares-as _ _ _ _ _ _ _ _ _ _ _ _ _
-          (places.outcome-one (setupNow (a .g)) rows (a .when .clock) (a .when .epoch) (ask (a .g) (a .when .clock)) (commandOf (a .bytes .now) (a .head)) _ _ (sym (w .0))) (r .1 rows o),
+          (places.outcome-one (setupNow (a .g)) rows (a .when .clock) (a .when .epoch) (ask (a .g) (a .when .clock))
+          (commandOf (a .bytes .now) (a .head)) _ _ (sym (w .0))) (r .1 rows o),
     )
 
 same-length-5 : tie.Need-same-length-5
@@ -156,7 +163,8 @@ returns-4 c =
           (c .before .before .before .before .before .before .before .before .v .given .0 .0) _ (sym (w .0)) (r .0),
       λ rows o.
           laws.prepares-as _ _ _ _ _ _ _ _ _ _ _ _ _
-          (places.outcome-several (setupNow (a .g)) rows (a .when .clock) (a .when .epoch) (ask (a .g) (a .when .clock)) (commandOf (a .bytes .now) (a .head)) (a .bytes .now)
+          (places.outcome-several (setupNow (a .g)) rows (a .when .clock) (a .when .epoch) (ask (a .g) (a .when .clock))
+          (commandOf (a .bytes .now) (a .head)) (a .bytes .now)
           (c .before .before .before .before .before .before .before .before .v .given .0 .0) _ (sym (w .0))) (r .1 rows o d),
     )
 

@@ -63,7 +63,8 @@ write-served-requires c κs =
     (whole-key (a .bytes .now) (a .head) (rangeBytes (a .bytes .now) (a .key))) in
     let h = found-hit _ _ _ _ _ _ _ _ f (p .3 .arena) _ _ (c .before .before .before .before .looked .given .1) in
     let r = p .3 .arena in (
-      room-is _ _ _ _ (laws.one-filled (a .g) (r .rows) (a .when .clock) (a .when .epoch) (a .expiry) (a .bytes .now) (a .head) (a .key) _ (h .is (r .rows) (r .lent)))
+      room-is _ _ _ _ (laws.one-filled (a .g) (r .rows) (a .when .clock) (a .when .epoch) (a .expiry) (a .bytes .now) (a .head) (a .key) _
+          (h .is (r .rows) (r .lent)))
           (p .4 (r .rows) (r .lent)),
       h .short,
     )
@@ -90,7 +91,8 @@ write-missing-requires c κs =
       omega arith,
       m,
       room-is _ _ _ _
-          (laws.one-waiting (a .g) (r .rows) (a .when .clock) (a .when .epoch) (a .expiry) (a .bytes .now) (a .head) (a .key) _ _ q (c .before .bytes-in .ensures) refl)
+          (laws.one-waiting (a .g) (r .rows) (a .when .clock) (a .when .epoch) (a .expiry) (a .bytes .now) (a .head) (a .key) _ _ q
+          (c .before .bytes-in .ensures) refl)
           (p .4 (r .rows) (r .lent)),
     )
 
@@ -103,15 +105,17 @@ same-length-2 c = search needs
 returns : tie.Need-returns
 unfolding part
 returns c =
-    let a = c .before .before .before .before .before .before .before .before .before .before .before .before .before .before .before .before .before .before .before .args in
-    let p = c .before .before .before .before .before .before .before .before .before .before .before .before .before .before .before .before .before .before .before .pre in
-    let f = c .before .before .before .before .before .before .before .before .before .before .before .before .look-up-key .ensures
+    let c₉ = c .before .before .before .before .before .before .before .before .before in
+    let a = c₉ .before .before .before .before .before .before .before .before .before .before .args in
+    let p = c₉ .before .before .before .before .before .before .before .before .before .before .pre in
+    let f = c₉ .before .before .before .look-up-key .ensures
     (wholeKey (commandOf (a .bytes .now) (a .head)) (rangeBytes (a .bytes .now) (a .key))) (laws.whole-is (a .bytes .now) (a .head) (a .key))
     (whole-key (a .bytes .now) (a .head) (rangeBytes (a .bytes .now) (a .key))) in
     let h = found-hit _ _ _ _ _ _ _ _ f (p .3 .arena) _ _ (c .before .before .before .before .before .before .before .looked .given .1) in (
       f .looks,
       λ rows o.
-          laws.prepares-hit (a .g) rows (a .when .clock) (a .when .epoch) (a .expiry) (a .bytes .now) (a .head) (a .key) _ _ (a .to) _ _ _ _ _ (h .order) (h .inside)
+          laws.prepares-hit (a .g) rows (a .when .clock) (a .when .epoch) (a .expiry) (a .bytes .now) (a .head) (a .key) _ _ (a .to) _ _ _ _ _ (h .order)
+          (h .inside)
           (h .is rows o) (c .before .before .write-served .ensures),
     )
 

@@ -81,7 +81,8 @@ write-missing-requires c κs =
 
 add-t33 : tie.Need-add-t33
 add-t33 c =
-    let p = c .before .before .before .before .before .before .before .before .before .before .before .before .before .before .before .before .before .before .before .pre .5 in
+    let c₉ = c .before .before .before .before .before .before .before .before .before in
+    let p = c₉ .before .before .before .before .before .before .before .before .before .before .pre .5 in
     omega arith
 
 same-length : tie.Need-same-length
@@ -93,9 +94,10 @@ same-length-2 c = search needs
 returns : tie.Need-returns
 unfolding part
 returns c =
-    let a = c .before .before .before .before .before .before .before .before .before .before .before .before .before .before .before .before .before .before .before .before .args in
-    let p = c .before .before .before .before .before .before .before .before .before .before .before .before .before .before .before .before .before .before .before .before .pre in
-    let f = c .before .before .before .before .before .before .before .before .before .before .before .before .look-up-key .ensures
+    let c₉ = c .before .before .before .before .before .before .before .before .before in
+    let a = c₉ .before .before .before .before .before .before .before .before .before .before .before .args in
+    let p = c₉ .before .before .before .before .before .before .before .before .before .before .before .pre in
+    let f = c₉ .before .before .before .look-up-key .ensures
     (wantAt (a .bytes .now) (a .v) (a .key)) (laws.want-key (a .bytes .now) (a .v) (a .key)) (part-key (a .bytes .now) (a .v) (a .key) (p .0)) in
     let h = laws.found-hit _ _ _ _ _ _ _ _ f (p .3 .arena) _ _ (c .before .before .before .before .before .before .before .looked .given .1) in
     laws.placed-hit _ _ _ _ _ _ _ _ _ _ _ f _ _ _ h (c .before .before .write-served .ensures)
@@ -108,9 +110,10 @@ same-length-4 c = search needs
 
 returns-2 : tie.Need-returns-2
 returns-2 c =
-    let a = c .before .before .before .before .before .before .before .before .before .before .before .before .before .before .before .before .before .before .before .args in
-    let p = c .before .before .before .before .before .before .before .before .before .before .before .before .before .before .before .before .before .before .before .pre in
-    let f = c .before .before .before .before .before .before .before .before .before .before .before .look-up-key .ensures
+    let c₉ = c .before .before .before .before .before .before .before .before .before in
+    let a = c₉ .before .before .before .before .before .before .before .before .before .before .args in
+    let p = c₉ .before .before .before .before .before .before .before .before .before .before .pre in
+    let f = c₉ .before .before .look-up-key .ensures
     (wantAt (a .bytes .now) (a .v) (a .key)) (laws.want-key (a .bytes .now) (a .v) (a .key)) (part-key (a .bytes .now) (a .v) (a .key) (p .0)) in
     laws.placed-miss _ _ _ _ _ _ _ _ _ _ _ f _ _ _ _ (c .before .before .before .before .before .before .enum-told .given .1)
     (c .before .before .before .before .before .bytes-in .ensures ∙ sym (laws.want-key (a .bytes .now) (a .v) (a .key)))

@@ -57,7 +57,8 @@ loop-again c =
     let q : l ≡ l - 1 + 1 = omega arith in
     let w = c .before .before .before .before .before .write-place .ensures in (
       laws.writing-next _ _ _ _ _ _ _ _ _ (p .2 .arena) _ l (l - 1) _ _ _
-          (c .before .before .before .before .before .before .before .before .before .next-key .result) q (c .before .before .before .before .before .before .before .before .before .next-key .ensures) (n .0) _ _ _ w (c .before .before .arena .given),
+          (c .before .before .before .before .before .before .before .before .before .next-key .result) q
+          (c .before .before .before .before .before .before .before .before .before .next-key .ensures) (n .0) _ _ _ w (c .before .before .arena .given),
       looks-filters _ _ _ _ _ _ _ _ _ (w .looks) (n .0 .turn .arena) (n .1),
     )
 

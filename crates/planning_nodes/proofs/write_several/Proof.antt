@@ -61,9 +61,10 @@ write-bare-requires-2 c κs =
 
 write-bare-requires-3 : tie.Need-write-bare-requires-3
 write-bare-requires-3 c κs =
-    let a = c .before .before .before .before .before .before .before .before .before .before .before .before .before .before .before .before .before .before .before .args in
-    let p = c .before .before .before .before .before .before .before .before .before .before .before .before .before .before .before .before .before .before .before .pre in
-    let y = c .before .before .before .before .before .before .before .before .before .before .before .before .write-places .ensures in
+    let c₉ = c .before .before .before .before .before .before .before .before .before in
+    let a = c₉ .before .before .before .before .before .before .before .before .before .before .args in
+    let p = c₉ .before .before .before .before .before .before .before .before .before .before .pre in
+    let y = c₉ .before .before .before .write-places .ensures in
     let q = p .2 .arena in
     let rows = q .rows in
     let o = q .lent in
@@ -80,9 +81,10 @@ same-length-2 c = search needs
 
 returns : tie.Need-returns
 returns c =
-    let a = c .before .before .before .before .before .before .before .before .before .before .before .before .before .before .before .before .before .before .args in
-    let p = c .before .before .before .before .before .before .before .before .before .before .before .before .before .before .before .before .before .before .pre in
-    let y = c .before .before .before .before .before .before .before .before .before .before .before .write-places .ensures in (
+    let c₉ = c .before .before .before .before .before .before .before .before .before in
+    let a = c₉ .before .before .before .before .before .before .before .before .before .args in
+    let p = c₉ .before .before .before .before .before .before .before .before .before .pre in
+    let y = c₉ .before .before .write-places .ensures in (
       y .looks,
       λ rows o d.
           let m = y .number rows o in
@@ -98,16 +100,17 @@ same-length-4 c = search needs
 
 returns-2 : tie.Need-returns-2
 returns-2 c =
-    let a = c .before .before .before .before .before .before .before .before .before .before .before .before .before .before .before .before .before .before .before .before .before .before .args in
-    let p = c .before .before .before .before .before .before .before .before .before .before .before .before .before .before .before .before .before .before .before .before .before .before .pre in
-    let y = c .before .before .before .before .before .before .before .before .before .before .before .before .before .before .before .write-places .ensures in (
+    let c₉ = c .before .before .before .before .before .before .before .before .before in
+    let a = c₉ .before .before .before .before .before .before .before .before .before .before .before .before .before .args in
+    let p = c₉ .before .before .before .before .before .before .before .before .before .before .before .before .before .pre in
+    let y = c₉ .before .before .before .before .before .before .write-places .ensures in (
       y .looks,
       λ rows o d.
           let m = y .number rows o in
           laws.prepares-missing (a .g) rows (a .when .clock) (a .when .epoch) (a .expiry) (a .bytes .now) (a .v) (p .0) _ _ _ _ (a .to) _ _ _ (p .3 rows o)
           (y .wrote rows o) (omega arith) (c .before .before .before .before .before .before .before .before .if1 .left)
           (c .before .before .before .before .before .before .write-bare2 .ensures .1) d _ _ (c .before .before .write-bare3 .ensures)
-          (c .before .before .before .before .before .before .before .before .before .before .before .before .before .before .before .before .before .before .before .before .before .before .fits .expiry .fits)
+          (c₉ .before .before .before .before .before .before .before .before .before .before .before .before .before .fits .expiry .fits)
           (y .fits rows o),
     )
 

@@ -13,7 +13,11 @@ peek-requires : tie.Need-peek-requires
 unfolding KeyIn
 peek-requires c κs = (
   c .before .before .before .before .before .pre .3,
-  (c .before .before .before .before .before .pre .1, c .before .before .before .before .before .pre .0 .inside, c .before .before .before .before .before .pre .2),
+  (
+    c .before .before .before .before .before .pre .1,
+    c .before .before .before .before .before .pre .0 .inside,
+    c .before .before .before .before .before .pre .2,
+  ),
 )
 
 returns : tie.Need-returns

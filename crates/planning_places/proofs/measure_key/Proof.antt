@@ -118,7 +118,8 @@ returns-2 c =
       λ rows l.
           laws.more-waiting (a .bytes .now) (a .v) (a .key) (p .0) (p .1) _ (c .before .before .before .before .before .bytes-in .ensures) _ _
           (c .before .before .before .missing-len .ensures) (c .before .bulklen .ensures) (a .m) _
-          (told-miss (a .arena .now) (wantAt (a .bytes .now) (a .v) (a .key)) (placeAt (a .g) rows (a .when .clock) (a .when .epoch) (a .bytes .now) (a .v) (a .key))
+          (told-miss (a .arena .now) (wantAt (a .bytes .now) (a .v) (a .key))
+          (placeAt (a .g) rows (a .when .clock) (a .when .epoch) (a .bytes .now) (a .v) (a .key))
           (c .before .before .before .before .before .before .before .before .peek-key .result) _
           (c .before .before .before .before .before .before .enum-told .given .1)
           (c .before .before .before .before .before .before .before .before .peek-key .ensures rows l)),

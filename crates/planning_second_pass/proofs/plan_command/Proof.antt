@@ -22,15 +22,17 @@ write-sent-requires c κs =
 
 sent-count-requires : tie.Need-sent-count-requires
 sent-count-requires c κs =
-    let a = c .before .before .before .before .before .before .before .before .before .before .before .before .before .before .before .before .before .before .args in
-    let w = c .before .before .before .before .before .before .before .before .before .before .before .before .before .before .before .before .before .before .pre in
+    let c₉ = c .before .before .before .before .before .before .before .before .before in
+    let a = c₉ .before .before .before .before .before .before .before .before .before .args in
+    let w = c₉ .before .before .before .before .before .before .before .before .before .pre in
     let q = w .2 .arena in
     let y = c .before .before .before .before .before .before .before .before .before .get-cached-cmd .ensures in
     laws.prepared-count (a .g .mode) _ _ _ _ _ _ _ _ _ (a .head) _ _ (w .1) (y .1 (q .rows) (q .lent)) .1
 
 add-t26 : tie.Need-add-t26
 add-t26 c =
-    let w = c .before .before .before .before .before .before .before .before .before .before .before .before .before .before .before .before .before .before .before .before .before .pre .5 in
+    let c₉ = c .before .before .before .before .before .before .before .before .before in
+    let w = c₉ .before .before .before .before .before .before .before .before .before .before .before .before .pre .5 in
     let n = c .before .before .sent-count .ensures .1 in
     omega arith
 
@@ -45,10 +47,11 @@ same-length-3 c = search needs
 
 returns : tie.Need-returns
 returns c =
-    let a = c .before .before .before .before .before .before .before .before .before .before .before .before .before .before .before .before .before .before .before .before .before .args in
-    let w = c .before .before .before .before .before .before .before .before .before .before .before .before .before .before .before .before .before .before .before .before .before .pre in
+    let c₉ = c .before .before .before .before .before .before .before .before .before in
+    let a = c₉ .before .before .before .before .before .before .before .before .before .before .before .before .args in
+    let w = c₉ .before .before .before .before .before .before .before .before .before .before .before .before .pre in
     let q = w .2 .arena in
-    let y = c .before .before .before .before .before .before .before .before .before .before .before .before .get-cached-cmd .ensures in
+    let y = c₉ .before .before .before .get-cached-cmd .ensures in
     let n = c .before .before .sent-count .ensures in
     let b = n .1 in (
       record {

@@ -8,7 +8,13 @@ slice-aggregate-plan-each : tie.Need-slice-aggregate-plan-each
 slice-aggregate-plan-each c = search needs
 
 plan-each-requires : tie.Need-plan-each-requires
-plan-each-requires c κs = let p = c .before .before .before .before .before .before .before .before .before .pre in (p .0, p .1, record { arena = p .2; filters = filters-none _ _ }, p .3, p .4)
+plan-each-requires c κs = let p = c .before .before .before .before .before .before .before .before .before .pre in (
+  p .0,
+  p .1,
+  record { arena = p .2; filters = filters-none _ _ },
+  p .3,
+  p .4,
+)
 
 same-length : tie.Need-same-length
 same-length c = search needs

@@ -55,14 +55,15 @@ loop-less c = omega arith
 
 loop-again : tie.Need-loop-again Inv-loop μ-loop
 loop-again c =
-    let l : ℕ = c .before .before .before .before .before .before .before .before .before .before .before .before .before .loop .left in
-    let d = c .before .before .before .before .before .before .before .before .before .before .before .head-at .ensures in
+    let c₉ = c .before .before .before .before .before .before .before .before .before in
+    let l : ℕ = c₉ .before .before .before .before .loop .left in
+    let d = c₉ .before .before .head-at .ensures in
     let f = c .args-end .ensures ∙ ap
     (λ (x : Head). argsEnd
-    (c .before .before .before .before .before .before .before .before .before .before .before .before .before .before .before .before .before .before .before .args .bytes .now)
+    (c₉ .before .before .before .before .before .before .before .before .before .before .args .bytes .now)
     (x .args .left) (x .args .at)) d in
     let o = c .before .before .before .before .before .before .before .plan-command .ensures in
-    let n = c .before .before .before .before .before .before .before .before .before .before .before .before .before .loop .inv in (
+    let n = c₉ .before .before .before .before .loop .inv in (
       laws.going-next _ _ _ _ _ _ _ _ _ _ l (l - 1) _ _ _ _ _ _ _ _ _ _ _ (one-more l (λ z. omega arith)) d f (o .0) (o .1)
           (c .before .before .before .before .before .before .arena .given) (n .0),
       looks-filters _ _ _ _ _ _ _ _ _ (o .0 .looks) (n .0 .arena) (n .1),

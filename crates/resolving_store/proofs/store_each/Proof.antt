@@ -50,38 +50,44 @@ returns c =
 
 keep-requires : tie.Need-keep-requires Inv-loop μ-loop
 keep-requires c κs =
+    let c₉ = c .before .before .before .before .before .before .before .before .before in
     let b = c .before .before .before .before .before .before .before .before .before .before .before .before .pre .1 in
     let l = c .before .before .before .before .before .before .before .loop in
     let k = l .inv .0 (b .ns) (b .es) (b .rs) (b .starts) in
-    let z = reached.stepped _ _ _ _ _ _ _ _ _ (k .reached) (c .before .before .before .before .before .if1 .taken) (c .before .before .before .before .step-at .ensures) in
-    (law.stores-arena _ _ _ _ _ _ (k .stores) (c .before .before .before .before .before .before .before .before .before .before .before .before .pre .0), z .inside, z .storable, l .inv .1)
+    let z = reached.stepped _ _ _ _ _ _ _ _ _ (k .reached) (c .before .before .before .before .before .if1 .taken)
+    (c .before .before .before .before .step-at .ensures) in
+    (law.stores-arena _ _ _ _ _ _ (k .stores) (c₉ .before .before .before .pre .0), z .inside, z .storable, l .inv .1)
 
 add-refused : tie.Need-add-refused Inv-loop μ-loop
 add-refused c =
-    let b = c .before .before .before .before .before .before .before .before .before .before .before .before .before .before .before .before .before .pre .1 in
-    let k = c .before .before .before .before .before .before .before .before .before .before .before .before .loop .inv .0 (b .ns) (b .es) (b .rs) (b .starts) in
-    let u = c .before .before .before .before .before .before .before .before .before .before .before .before .before .before .before .before .before .good .1 .1 .0 in
-    omega (arith, k .few, c .before .before .before .before .keep .ensures .1, c .before .before .before .before .before .before .before .before .before .before .if1 .taken, u)
+    let c₉ = c .before .before .before .before .before .before .before .before .before in
+    let b = c₉ .before .before .before .before .before .before .before .before .pre .1 in
+    let k = c₉ .before .before .before .loop .inv .0 (b .ns) (b .es) (b .rs) (b .starts) in
+    let u = c₉ .before .before .before .before .before .before .before .before .good .1 .1 .0 in
+    omega (arith, k .few, c .before .before .before .before .keep .ensures .1, c₉ .before .if1 .taken, u)
 
 loop-less : tie.Need-loop-less Inv-loop μ-loop
 loop-less c =
-    let b = c .before .before .before .before .before .before .before .before .before .before .before .before .before .before .before .before .before .before .pre .1 in
-    let k = c .before .before .before .before .before .before .before .before .before .before .before .before .before .loop .inv .0 (b .ns) (b .es) (b .rs) (b .starts) in
-    let z = reached.stepped _ _ _ _ _ _ _ _ _ (k .reached) (c .before .before .before .before .before .before .before .before .before .before .before .if1 .taken)
+    let c₉ = c .before .before .before .before .before .before .before .before .before in
+    let b = c₉ .before .before .before .before .before .before .before .before .before .pre .1 in
+    let k = c₉ .before .before .before .before .loop .inv .0 (b .ns) (b .es) (b .rs) (b .starts) in
+    let z = reached.stepped _ _ _ _ _ _ _ _ _ (k .reached) (c₉ .before .before .if1 .taken)
     (c .before .before .before .before .before .before .before .before .before .before .step-at .ensures) in
-    let w = sym (c .before .before .before .before .before .before .before .before .before .is-wrong .ensures) ∙ c .before .before .before .before .before .before .before .before .if2 .left in
+    let w = sym (c .before .before .before .before .before .before .before .before .before .is-wrong .ensures)
+    ∙ c .before .before .before .before .before .before .before .before .if2 .left in
     omega (arith, z .far w, z .near w)
 
 loop-again : tie.Need-loop-again Inv-loop μ-loop
 loop-again c = (
-  λ ns es rs h. law.keep-step _ _ _ _ _ _ _ _ _ _ _ _ _ _ (c .before .before .before .before .before .before .before .before .before .before .before .if1 .taken)
+  λ ns es rs h. law.keep-step _ _ _ _ _ _ _ _ _ _ _ _ _ _ (c₉ .before .before .if1 .taken)
       (c .before .before .before .before .before .before .before .before .before .before .step-at .ensures)
-      (sym (c .before .before .before .before .before .before .before .before .before .is-wrong .ensures) ∙ c .before .before .before .before .before .before .before .before .if2 .left)
+      (sym (c .before .before .before .before .before .before .before .before .before .is-wrong .ensures)
+      ∙ c .before .before .before .before .before .before .before .before .if2 .left)
       (c .before .before .before .before .before .keep .ensures .0) (c .before .before .before .before .before .keep .ensures .1)
-      (c .before .before .before .before .before .before .before .before .before .before .before .before .before .loop .inv .0 ns es rs h),
+      (c₉ .before .before .before .before .loop .inv .0 ns es rs h),
   c .before .before .before .before .before .keep .ensures .2,
-  c .before .before .before .before .arena .given ∙ c .before .before .before .before .before .before .before .before .before .before .before .before .before .loop .inv .2,
-  c .before .before .seen .given ∙ c .before .before .before .before .before .before .before .before .before .before .before .before .before .loop .inv .3,
+  c .before .before .before .before .arena .given ∙ c₉ .before .before .before .before .loop .inv .2,
+  c .before .before .seen .given ∙ c₉ .before .before .before .before .loop .inv .3,
 )
 
 same-length-3 : tie.Need-same-length-3 Inv-loop μ-loop

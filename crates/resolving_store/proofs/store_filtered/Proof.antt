@@ -13,7 +13,11 @@ slice-aggregate-store-each : tie.Need-slice-aggregate-store-each
 slice-aggregate-store-each c = search needs
 
 store-each-requires : tie.Need-store-each-requires
-store-each-requires c κs = (c .before .before .before .before .before .before .before .before .before .pre .0, c .before .before .before .before .before .before .before .before .before .pre .1, c .before .before .before .fill .ensures)
+store-each-requires c κs = (
+  c .before .before .before .before .before .before .before .before .before .pre .0,
+  c .before .before .before .before .before .before .before .before .before .pre .1,
+  c .before .before .before .fill .ensures,
+)
 
 same-length : tie.Need-same-length
 same-length c = search needs

@@ -20,7 +20,8 @@ increase-each-requires-2 : tie.Need-increase-each-requires-2
 increase-each-requires-2 c κs = search needs
 
 returns : tie.Need-returns
-returns c = rw (c .increase-each .ensures) (sym (ap (λ (r : Looked). adding (c .before .before .before .args .counts) (addsBy r)) (c .before .enum-told .given .1)))
+returns c = rw (c .increase-each .ensures) (sym (ap (λ (r : Looked). adding (c .before .before .before .args .counts) (addsBy r))
+    (c .before .enum-told .given .1)))
 
 returns-2 : tie.Need-returns-2
 returns-2 c =

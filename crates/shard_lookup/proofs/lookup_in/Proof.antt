@@ -102,8 +102,9 @@ same-length-2 c = search needs
 
 returns-2 : tie.Need-returns-2
 returns-2 c row h =
+    let c₉ = c .before .before .before .before .before .before .before .before .before in
     let g = key (c .before .before .before .before .before .before .before .before .before .before) _ h in
-    let a = c .before .before .before .before .before .before .before .before .before .before .before .before .before .before .before .before .before .before .args in
+    let a = c₉ .before .before .before .before .before .before .before .before .before .args in
     let v = subst (λ (r : Reading). Reads (a .when .clock) (a .when .epoch) (keyBytes (a .source .now) (a .command)) (g .item) r)
     (c .before .before .before .before .before .before .enum-told2 .given .1)
     (c .before .before .before .before .before .before .before .before .read-item .ensures (g .place .front) (g .place .back) (g .item) (g .stands)) in

@@ -80,7 +80,8 @@ returns-2 : tie.Need-returns-2
 returns-2 c row h =
     let g = key (c .before .before .before .before) _ h in
     let a = c .before .before .before .before .before .before .before .before .before .before .before .args in
-    let v = subst (λ (r : Reading). Reads (a .when .clock) (a .when .epoch) (keyBytes (a .source .now) (a .command)) (g .item) r) (c .before .enum-told2 .given .1)
+    let v = subst (λ (r : Reading). Reads (a .when .clock) (a .when .epoch) (keyBytes (a .source .now) (a .command)) (g .item) r)
+    (c .before .enum-told2 .given .1)
     (c .before .before .before .read-item .ensures (g .place .front) (g .place .back) (g .item) (g .stands)) in
     let n = c .entry-count .ensures (g .place .front) (g .place .back) (g .item) (g .stands) in
     tells-miss (a .s .now) _ _ _ _ (finds-stale _ _ _ _ row (g .item) (g .is) v) n

@@ -21,10 +21,11 @@ epoch-of-requires c κs =
 
 store-update-requires : tie.Need-store-update-requires
 store-update-requires c κs =
-    let h = c .before .before .before .before .before .before .before .before .before .before .before .before .before .pre .0 .holds in
+    let c₉ = c .before .before .before .before .before .before .before .before .before in
+    let h = c₉ .before .before .before .before .pre .0 .holds in
     let g = key-at h (sym (c .before .before .before .before .before .before .before .find .ensures _ h)
     ∙ c .before .before .before .before .before .at .given .1) in
-    (item-at g, c .before .before .before .before .before .before .before .before .before .before .before .before .before .pre .1 .command, c .before .before .before .before .before .before .before .before .before .before .before .before .before .pre .1 .value)
+    (item-at g, c₉ .before .before .before .before .pre .1 .command, c₉ .before .before .before .before .pre .1 .value)
 
 same-length : tie.Need-same-length
 same-length c = search needs

@@ -94,7 +94,8 @@ same-length-2 c = search needs
 
 returns-2 : tie.Need-returns-2
 returns-2 c front back it w =
-    let a = c .before .before .before .before .before .before .before .before .before .before .before .before .before .before .before .before .before .before .before .args in
+    let c₉ = c .before .before .before .before .before .before .before .before .before in
+    let a = c₉ .before .before .before .before .before .before .before .before .before .before .args in
     let f = fields w in
     let e = c .before .before .before .before .before .before .before .before .before .item-len .ensures front back it w in
     let n = count-read (w .holds) in

@@ -23,7 +23,8 @@ write-sent-requires c κs =
       w .0 .here,
       k .inside,
       room-is _ _ _ _
-          (ap (λ (z : ℕ → Row). sentFor (setupNow (a .g)) z (a .when .clock) (a .when .epoch) (ask (a .g) (a .when .clock)) (a .g .mode) (commandOf (a .bytes .now) (a .head))) (w .4 .none (q .rows) (q .lent))
+          (ap (λ (z : ℕ → Row). sentFor (setupNow (a .g)) z (a .when .clock) (a .when .epoch) (ask (a .g) (a .when .clock)) (a .g .mode)
+          (commandOf (a .bytes .now) (a .head))) (w .4 .none (q .rows) (q .lent))
           ∙ k .sent) (w .3 (q .rows) (q .lent)),
     )
 
@@ -36,7 +37,8 @@ returns c =
     let w = c .before .before .before .before .before .before .before .before .pre in
     let k = c .before .before .before .before .all-wait .ensures (a .when .epoch) in
     λ rows o. wrote-as _ _ _ _ _ _
-    (ap (λ (z : ℕ → Row). sentFor (setupNow (a .g)) z (a .when .clock) (a .when .epoch) (ask (a .g) (a .when .clock)) (a .g .mode) (commandOf (a .bytes .now) (a .head))) (w .4 .none rows o) ∙ k .sent)
+    (ap (λ (z : ℕ → Row). sentFor (setupNow (a .g)) z (a .when .clock) (a .when .epoch) (ask (a .g) (a .when .clock)) (a .g .mode)
+    (commandOf (a .bytes .now) (a .head))) (w .4 .none rows o) ∙ k .sent)
     (c .before .before .write-sent .ensures)
 
 pub write-command-spec : {M : Type 1} → statement M

@@ -9,7 +9,8 @@ write-start-requires : tie.Need-write-start-requires
 write-start-requires c κs =
     let w = c .before .before .before .before .pre in
     let a = c .before .before .before .before .args in
-    laws.start-room (a .g) (a .arena .now) (a .when .clock) (a .when .epoch) (a .transaction) (commandsAt (a .bytes .now) (a .k .left) (a .k .at)) (a .out .now) (w .3)
+    laws.start-room (a .g) (a .arena .now) (a .when .clock) (a .when .epoch) (a .transaction) (commandsAt (a .bytes .now) (a .k .left) (a .k .at))
+    (a .out .now) (w .3)
     (w .2)
 
 write-commands-requires : tie.Need-write-commands-requires
@@ -28,7 +29,8 @@ write-end-requires : tie.Need-write-end-requires
 write-end-requires c κs =
     let w = c .before .before .before .before .before .before .before .before .before .before .before .before .pre in
     let a = c .before .before .before .before .before .before .before .before .before .before .before .before .args in
-    laws.end-room (a .g) (a .arena .now) (a .when .clock) (a .when .epoch) (a .transaction) (commandsAt (a .bytes .now) (a .k .left) (a .k .at)) (a .out .now) (w .3) _ _
+    laws.end-room (a .g) (a .arena .now) (a .when .clock) (a .when .epoch) (a .transaction) (commandsAt (a .bytes .now) (a .k .left) (a .k .at))
+    (a .out .now) (w .3) _ _
     (c .before .before .before .before .before .before .before .write-start .ensures) _ _ (c .before .before .before .write-commands .ensures) (w .2)
 
 same-length : tie.Need-same-length
@@ -38,7 +40,8 @@ returns : tie.Need-returns
 returns c =
     let w = c .before .before .before .before .before .before .before .before .before .before .before .before .before .before .before .pre in
     let a = c .before .before .before .before .before .before .before .before .before .before .before .before .before .before .before .args in
-    laws.all-wrote (a .g) (a .arena .now) (a .when .clock) (a .when .epoch) (a .transaction) (commandsAt (a .bytes .now) (a .k .left) (a .k .at)) (a .out .now) (w .3) _ _
+    laws.all-wrote (a .g) (a .arena .now) (a .when .clock) (a .when .epoch) (a .transaction) (commandsAt (a .bytes .now) (a .k .left) (a .k .at))
+    (a .out .now) (w .3) _ _
     (c .before .before .before .before .before .before .before .before .before .before .write-start .ensures) _ _
     (c .before .before .before .before .before .before .write-commands .ensures) _ _ (c .before .before .write-end .ensures)
 
