@@ -10,7 +10,8 @@ use lib.Dec.{eqb}
 use borrow.Author.Tests.{eqb-true, eqb-false, ne-eqb}
 use Rattle.buffer.specs.Cases.{byTest}
 use Rattle.buffer.specs.Same.{Bytes}
-use Rattle.buffer.specs.Part.{part, put, part-at, put-at}
+use Rattle.buffer.specs.Part.{part, put}
+use Rattle.buffer.specs.PartLaws.{part-at, put-at}
 use Rattle.book.specs.Book.{Setup, Row, rowBytes, setRow}
 use Rattle.book.specs.Trace.{row-here, row-elsewhere}
 use Rattle.arena.specs.Layout.{zeros, encShard, encShards, encode}

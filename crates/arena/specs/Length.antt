@@ -5,7 +5,7 @@ use native.Mathlib.Omega.{arith}
 use mathlib.Core.List.{List, [], _∷_}
 use lib.ListN.{length, length-append, length-replicate}
 use Rattle.buffer.specs.Same.{Bytes}
-use Rattle.buffer.specs.Field.{length-le}
+use Rattle.buffer.specs.FieldLaws.{length-le}
 use Rattle.book.specs.Book.{Setup, Entry, Item, Row, newItem, entryBytes, rowBytes}
 use Rattle.arena.specs.Layout.{head, itemHead, encEntry, encEntries, encItem, encItems, encShard, encShards, encode}
 

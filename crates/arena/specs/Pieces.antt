@@ -5,8 +5,10 @@ use native.Mathlib.Omega.{arith}
 use mathlib.Core.List.{List, [], _∷_, _++_, append-assoc, append-nil}
 use lib.ListN.{length, length-append}
 use Rattle.buffer.specs.Same.{Bytes}
-use Rattle.buffer.specs.Field.{le32, le64, length-le}
-use Rattle.buffer.specs.Part.{put, put-at}
+use Rattle.buffer.specs.Field.{le32, le64}
+use Rattle.buffer.specs.FieldLaws.{length-le}
+use Rattle.buffer.specs.Part.{put}
+use Rattle.buffer.specs.PartLaws.{put-at}
 use Rattle.book.specs.Book.{Entry, Item, Row, entryBytes, rowBytes}
 use Rattle.arena.specs.Layout.{zeros, head, itemHead, encEntry, encEntries, encItem, encItems, encShard}
 

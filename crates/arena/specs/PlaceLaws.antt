@@ -9,7 +9,8 @@ use mathlib.Core.List.{List, [], _∷_, _++_, append-assoc}
 use lib.ListN.{length, length-append}
 use Rattle.buffer.specs.Cases.{byTest}
 use Rattle.buffer.specs.Same.{Bytes, same}
-use Rattle.buffer.specs.Part.{part, part-past, part-part}
+use Rattle.buffer.specs.Part.{part}
+use Rattle.buffer.specs.PartLaws.{part-past, part-part}
 use Rattle.book.specs.Book.{Setup, Entry, Item, Row, find, valueFor, entryBytes, rowBytes}
 use Rattle.book.specs.Trace.{Proper}
 use Rattle.arena.specs.Layout.{head, itemHead, encEntry, encEntries, encItem, encItems, encShard, encode}

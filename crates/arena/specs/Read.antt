@@ -7,8 +7,10 @@ use mathlib.Core.List.{List, [], _∷_, _++_, append-assoc}
 use lib.ListN.{length, drop, length-append}
 use lib.Seq.{drop-at}
 use Rattle.buffer.specs.Same.{Bytes}
-use Rattle.buffer.specs.Field.{le, le32, le64, readLe, read32, read64, length-le, read-at}
-use Rattle.buffer.specs.Part.{part, part-at}
+use Rattle.buffer.specs.Field.{le, le32, le64, readLe, read32, read64}
+use Rattle.buffer.specs.FieldLaws.{length-le, read-at}
+use Rattle.buffer.specs.Part.{part}
+use Rattle.buffer.specs.PartLaws.{part-at}
 use Rattle.book.specs.Book.{Entry, Item, Row, entryBytes, rowBytes}
 use Rattle.arena.specs.Layout.{zeros, head, itemHead, encEntry, encEntries, encItem, encItems, encShard}
 use Rattle.arena.specs.Decode.{readEntry, readEntries, readItem, readItems, readShard}

@@ -10,7 +10,8 @@ use lib.Dec.{eqb}
 use borrow.Author.Tests.{le-leb, lt-leb}
 use Rattle.buffer.specs.Same.{Bytes}
 use Rattle.buffer.specs.Field.{Octets, read32}
-use Rattle.buffer.specs.Part.{part, length-part}
+use Rattle.buffer.specs.Part.{part}
+use Rattle.buffer.specs.PartLaws.{length-part}
 use Rattle.buffer.specs.Zero.{allZero}
 use Rattle.book.specs.Book.{Setup}
 use Rattle.resp3.specs.Ends.{isValue}

@@ -10,7 +10,8 @@ use borrow.Author.Tests.{leb-true, le-leb}
 use Rattle.buffer.specs.Cases.{byTest}
 use Rattle.buffer.specs.Same.{Bytes, same}
 use Rattle.buffer.specs.Field.{Octets, read32}
-use Rattle.buffer.specs.Part.{part, part-add, part-at, length-part}
+use Rattle.buffer.specs.Part.{part}
+use Rattle.buffer.specs.PartLaws.{part-add, part-at, length-part}
 use Rattle.buffer.specs.Zero.{allZero, zeros-pass}
 use Rattle.config.specs.Limits.{maxCommandKey}
 use Rattle.book.specs.Book.{Entry, valueFor, entryBytes}

@@ -9,8 +9,10 @@ use lib.ListN.{length, length-append}
 use borrow.Author.Tests.{leb-true, le-leb, eqb-true, eq-eqb}
 use Rattle.buffer.specs.Cases.{byTest}
 use Rattle.buffer.specs.Same.{Bytes, same}
-use Rattle.buffer.specs.Field.{Octets, read32, read64, read-below}
-use Rattle.buffer.specs.Part.{part, part-add, part-at, length-part}
+use Rattle.buffer.specs.Field.{Octets, read32, read64}
+use Rattle.buffer.specs.FieldLaws.{read-below}
+use Rattle.buffer.specs.Part.{part}
+use Rattle.buffer.specs.PartLaws.{part-add, part-at, length-part}
 use Rattle.buffer.specs.Zero.{allZero, zeros-pass}
 use Rattle.config.specs.Limits.{maxKey, maxCommandKey}
 use Rattle.book.specs.Book.{Setup, Entry, Item, Row, find, entryBytes, rowBytes}

@@ -12,7 +12,8 @@ use borrow.Author.Tests.{ltb-true, ltb-false, lt-ltb}
 use Rattle.buffer.specs.Cases.{byTest}
 use Rattle.buffer.specs.Same.{Bytes, same, same-refl}
 use Rattle.buffer.specs.Field.{Octets}
-use Rattle.buffer.specs.Part.{part, around-part, length-part}
+use Rattle.buffer.specs.Part.{part}
+use Rattle.buffer.specs.PartLaws.{around-part, length-part}
 use Rattle.buffer.specs.Zero.{allZero, zeros-pass, passed-zeros}
 use Rattle.book.specs.Book.{Setup, rowBytes}
 use Rattle.book.specs.Sound.{sound-nil}

@@ -8,8 +8,10 @@ use lib.ListN.{length, take, drop, length-append, length-drop}
 use lib.Seq.{drop-at}
 use borrow.Author.Tests.{leb-true, le-leb, eqb-true, eq-eqb}
 use Rattle.buffer.specs.Same.{Bytes}
-use Rattle.buffer.specs.Field.{Octets, read32, read-below}
-use Rattle.buffer.specs.Part.{part, around-part, part-front}
+use Rattle.buffer.specs.Field.{Octets, read32}
+use Rattle.buffer.specs.FieldLaws.{read-below}
+use Rattle.buffer.specs.Part.{part}
+use Rattle.buffer.specs.PartLaws.{around-part, part-front}
 use Rattle.buffer.specs.Zero.{allZero, zeros-pass, passed-zeros}
 use Rattle.book.specs.Book.{Setup, Item, Row, rowBytes}
 use Rattle.book.specs.Each.{Each}

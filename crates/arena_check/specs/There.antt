@@ -7,8 +7,10 @@ use mathlib.Core.Bool.{true}
 use mathlib.Core.List.{_++_, append-assoc}
 use lib.ListN.{length, length-append, length-replicate}
 use Rattle.buffer.specs.Same.{Bytes}
-use Rattle.buffer.specs.Field.{Octets, le32, le64, readLe, read32, read64, le-read, length-le, read-past}
-use Rattle.buffer.specs.Part.{part, part-add, part-at, part-past, length-part}
+use Rattle.buffer.specs.Field.{Octets, le32, le64, readLe, read32, read64}
+use Rattle.buffer.specs.FieldLaws.{le-read, length-le, read-past}
+use Rattle.buffer.specs.Part.{part}
+use Rattle.buffer.specs.PartLaws.{part-add, part-at, part-past, length-part}
 use Rattle.buffer.specs.Zero.{allZero, passed-zeros}
 use Rattle.arena.specs.Layout.{zeros, head, itemHead}
 

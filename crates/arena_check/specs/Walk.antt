@@ -9,7 +9,8 @@ use mathlib.Core.List.{List, [], _∷_, _++_, append-assoc}
 use lib.ListN.{length, length-append}
 use Rattle.buffer.specs.Cases.{byTest}
 use Rattle.buffer.specs.Same.{Bytes, same}
-use Rattle.buffer.specs.Part.{part, part-add}
+use Rattle.buffer.specs.Part.{part}
+use Rattle.buffer.specs.PartLaws.{part-add}
 use Rattle.format.specs.Runs.{All, all-append}
 
 -- ---- the walk

@@ -10,7 +10,8 @@ use Rattle.book.specs.Calls.{Call, planning, single}
 use Rattle.book.specs.Cases.{holding, none-yet, a, b, get, u}
 use Rattle.book.specs.CallCases.{wanted, case-defs}
 use Rattle.book.specs.Trace.{Proper}
-use Rattle.book.specs.Demand3.{LookupIn, gets, nth, IsServed, demand-three}
+use Rattle.book.specs.Demand3.{LookupIn, gets, nth, IsServed}
+use Rattle.book.specs.Demand3Laws.{demand-three}
 
 -- the sequence
 abbrev pub planned-after-store : List Call

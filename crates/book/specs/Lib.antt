@@ -18,4 +18,5 @@ pub mod Residents
 pub mod Ways
 pub mod Exchange
 pub mod Demand3
+pub mod Demand3Laws
 pub mod DemandCases

@@ -7,8 +7,10 @@ use native.Mathlib.Numerals.{add-one}
 use lib.ListN.{length, take, drop, set}
 use lib.Seq.{sets-eq}
 use Rattle.buffer.specs.Same.{Bytes}
-use Rattle.buffer.specs.Part.{put, put-put}
-use Rattle.buffer.specs.Field.{le, length-le, le-add}
+use Rattle.buffer.specs.Part.{put}
+use Rattle.buffer.specs.PartLaws.{put-put}
+use Rattle.buffer.specs.Field.{le}
+use Rattle.buffer.specs.FieldLaws.{length-le, le-add}
 
 -- two stores write a field of two bytes
 pub two-stores : (s : Bytes) (at n : ℕ) → at + 2 ≤ length s → n < 65536 → set (set s at (n % 256)) (at + 1) (n / 256) ≡ put s at (le 2 n)

@@ -10,7 +10,8 @@ use lib.Bits.{bitOr, bitXor, or-zero-l, or-add-and, xor-add-and, xor-self, and-l
 use borrow.Author.Tests.{eqb-true, eqb-false, ne-eqb}
 use Rattle.buffer.specs.Cases.{byTest}
 use Rattle.buffer.specs.Same.{Bytes, same, same-append}
-use Rattle.buffer.specs.Part.{part, length-part, part-add, drop-part}
+use Rattle.buffer.specs.Part.{part}
+use Rattle.buffer.specs.PartLaws.{length-part, part-add, drop-part}
 use Rattle.buffer.specs.Step.{part-suc}
 use Rattle.buffer.specs.Zero.{allZero, allZero-append}
 

@@ -5,7 +5,8 @@ use Prim.Native.Nat.{ℕ, _+_, _≤_}
 use native.Mathlib.Omega.{arith}
 use lib.ListN.{length, length-append}
 use Rattle.buffer.specs.Same.{Bytes}
-use Rattle.buffer.specs.Part.{put, put-put, length-put}
+use Rattle.buffer.specs.Part.{put}
+use Rattle.buffer.specs.PartLaws.{put-put, length-put}
 use Rattle.buffer.specs.Step.{put-nil}
 
 -- d is what was d₀ as far as it goes: the rest put at e makes the whole

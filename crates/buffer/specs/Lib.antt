@@ -1,8 +1,10 @@
 pub mod Cases
 pub mod Field
+pub mod FieldLaws
 pub mod Lists
 pub mod Move
 pub mod Part
+pub mod PartLaws
 pub mod Same
 pub mod Ascii
 pub mod Step

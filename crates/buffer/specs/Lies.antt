@@ -6,8 +6,10 @@ use native.Mathlib.Omega.{arith}
 use lib.ListN.{length, getD, length-append}
 use lib.Seq.{getD-at}
 use Rattle.buffer.specs.Same.{Bytes}
-use Rattle.buffer.specs.Part.{part, part-at}
-use Rattle.buffer.specs.Field.{le, readLe, read-at}
+use Rattle.buffer.specs.Part.{part}
+use Rattle.buffer.specs.PartLaws.{part-at}
+use Rattle.buffer.specs.Field.{le, readLe}
+use Rattle.buffer.specs.FieldLaws.{read-at}
 
 -- the bytes bs stand in s at `at`
 pub record Lies (s : Bytes) (at : ℕ) (bs : Bytes) : Type 0 where

@@ -9,7 +9,8 @@ use lib.ListN.{length, take, drop, replicate, length-append, length-replicate, r
 use lib.Seq.{take-at}
 use Rattle.buffer.specs.Lists.{drop-past, drop-replicate}
 use Rattle.buffer.specs.Same.{Bytes}
-use Rattle.buffer.specs.Part.{part, put, part-at, length-part, put-at}
+use Rattle.buffer.specs.Part.{part, put}
+use Rattle.buffer.specs.PartLaws.{part-at, length-part, put-at}
 use Rattle.buffer.specs.Step.{put-front}
 
 -- s with the n elements at `from` copied to `to`

@@ -8,7 +8,8 @@ use native.Mathlib.Numerals.{add-one}
 use lib.ListN.{length, getD, take, drop, set, length-append, take-append-drop}
 use lib.Seq.{drop-cons, drop-at, set-split, getD-take, length-take-le}
 use Rattle.buffer.specs.Lists.{getD-agree}
-use Rattle.buffer.specs.Part.{part, put, length-put, put-put, part-add, take-put-before, drop-put-after}
+use Rattle.buffer.specs.Part.{part, put}
+use Rattle.buffer.specs.PartLaws.{length-put, put-put, part-add, take-put-before, drop-put-after}
 
 module _ {ℓ} {A : Type ℓ} where
   -- the part of one element

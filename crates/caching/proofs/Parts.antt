@@ -4,7 +4,8 @@ use Prim.Native.Nat.{ℕ, _+_, _-_, _≤_}
 use native.Mathlib.Omega.{arith}
 use lib.ListN.{length}
 use Rattle.buffer.specs.Same.{Bytes}
-use Rattle.buffer.specs.Part.{part, length-part}
+use Rattle.buffer.specs.Part.{part}
+use Rattle.buffer.specs.PartLaws.{length-part}
 use Rattle.single_calls.specs.declared.Found.{Found}
 use Rattle.single_calls.specs.declared.Found.the-variants.{Hit, Miss, Denied}
 use Rattle.single_calls.specs.Answers.{foundNumber, foundValue, foundPlace, FoundIn}

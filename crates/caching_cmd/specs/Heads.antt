@@ -5,7 +5,8 @@ use Prim.Native.Nat.{ℕ, _+_, _-_, _≤_}
 use native.Mathlib.Omega.{arith}
 use lib.ListN.{length, replicate, length-append, length-replicate}
 use Rattle.buffer.specs.Same.{Bytes}
-use Rattle.buffer.specs.Part.{put, put-put, put-all}
+use Rattle.buffer.specs.Part.{put}
+use Rattle.buffer.specs.PartLaws.{put-put, put-all}
 use Rattle.buffer.specs.Zero.{zeroed}
 use Rattle.decimal.specs.Digits.{digits}
 use Rattle.cmd.specs.Pack.{head}

@@ -8,8 +8,10 @@ use Prim.Native.Nat.{ℕ, _+_, _-_, _≤_}
 use native.Mathlib.Omega.{arith}
 use lib.ListN.{length, drop, length-append}
 use Rattle.buffer.specs.Same.{Bytes}
-use Rattle.buffer.specs.Field.{le32, length-le}
-use Rattle.buffer.specs.Part.{part, part-at, part-all, length-part}
+use Rattle.buffer.specs.Field.{le32}
+use Rattle.buffer.specs.FieldLaws.{length-le}
+use Rattle.buffer.specs.Part.{part}
+use Rattle.buffer.specs.PartLaws.{part-at, part-all, length-part}
 use Rattle.config.specs.Causes.{badPlan, badReply}
 use Rattle.config.specs.Limits.{maxBytes}
 use Rattle.config.specs.declared.CacheMode.{CacheMode}

@@ -9,7 +9,8 @@ use lib.Dec.{leb}
 use lib.ListN.{length, replicate, length-append}
 use borrow.Author.Tests.{leb-true}
 use Rattle.buffer.specs.Same.{Bytes}
-use Rattle.buffer.specs.Part.{put, put-put}
+use Rattle.buffer.specs.Part.{put}
+use Rattle.buffer.specs.PartLaws.{put-put}
 use Rattle.config.specs.Causes.{badShape, shortAnswer}
 use Rattle.config.specs.declared.Settings.{Settings}
 use Rattle.resp3.specs.Value.{Values, encs, count}

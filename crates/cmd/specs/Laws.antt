@@ -9,7 +9,8 @@ use lib.ListN.{length, getD, set, length-append}
 use borrow.Author.Tests.{eq-eqb, ne-eqb, eqb-true, eqb-false}
 use Rattle.buffer.specs.Cases.{byTest}
 use Rattle.buffer.specs.Same.{Bytes}
-use Rattle.buffer.specs.Part.{put, length-put}
+use Rattle.buffer.specs.Part.{put}
+use Rattle.buffer.specs.PartLaws.{length-put}
 use Rattle.buffer.specs.Step.{set-put}
 use Rattle.config.specs.Limits.{maxBytes}
 use Rattle.call_record.specs.Record.{Argument}

@@ -10,7 +10,8 @@ use lib.Seq.{drop-drop, length-take-le}
 use borrow.Author.Tests.{eqb-true, eqb-false}
 use Rattle.buffer.specs.Cases.{byTest}
 use Rattle.buffer.specs.Same.{Bytes, same, same-append, same-length}
-use Rattle.buffer.specs.Part.{part, length-part}
+use Rattle.buffer.specs.Part.{part}
+use Rattle.buffer.specs.PartLaws.{length-part}
 use Rattle.cursor.specs.At.{sizeAt, nextAt, argsAt, ArgIn, ArgsIn}
 use Rattle.cursor.specs.Steps.{in-more, args-none, args-more}
 use Rattle.cursor.specs.Index.{own-is}

@@ -6,7 +6,8 @@ use Prim.Native.Nat.{_-_, _≤_}
 use native.Mathlib.Omega.{arith}
 use lib.ListN.{length, take, drop}
 use Rattle.buffer.specs.Same.{Bytes}
-use Rattle.buffer.specs.Part.{part, length-part}
+use Rattle.buffer.specs.Part.{part}
+use Rattle.buffer.specs.PartLaws.{length-part}
 use Rattle.config.specs.Limits.{maxBytes}
 use Rattle.cursor.specs.At.{rangeBytes, RangeIn, argsOf, ArgsHere}
 use Rattle.cursor.specs.declared.Args.{Args}

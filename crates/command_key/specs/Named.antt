@@ -6,7 +6,8 @@ use Prim.Native.Nat.{ℕ, _+_, _-_, _≤_}
 use native.Mathlib.Omega.{arith}
 use lib.ListN.{length, length-append}
 use Rattle.buffer.specs.Same.{Bytes, same, same-append, same-length}
-use Rattle.buffer.specs.Part.{part, part-all, part-add, put, length-part}
+use Rattle.buffer.specs.Part.{part, put}
+use Rattle.buffer.specs.PartLaws.{part-all, part-add, length-part}
 use Rattle.cursor.specs.At.{rangeBytes, RangeIn}
 use Rattle.cursor.specs.declared.Range.{Range}
 use Rattle.command_key.specs.Key.{nameBytes}

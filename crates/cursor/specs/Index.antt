@@ -10,7 +10,8 @@ use lib.ListN.{length, getD}
 use borrow.Author.Tests.{eq-eqb, ne-eqb}
 use Rattle.buffer.specs.Cases.{byTest}
 use Rattle.buffer.specs.Same.{Bytes}
-use Rattle.buffer.specs.Part.{part, length-part}
+use Rattle.buffer.specs.Part.{part}
+use Rattle.buffer.specs.PartLaws.{length-part}
 use Rattle.call_record.specs.Record.{Argument, simple, cursor}
 use Rattle.cursor.specs.At.{rangeBytes, RangeIn, sizeAt, nextAt, argAt, argsAt, ArgIn, ArgsIn}
 use Rattle.cursor.specs.Steps.{in-more, args-none, args-more}

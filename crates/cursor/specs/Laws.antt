@@ -9,7 +9,8 @@ use lib.ListN.{length, getD, length-append}
 use borrow.Author.Tests.{eq-eqb, ne-eqb}
 use Rattle.buffer.specs.Same.{Bytes}
 use Rattle.buffer.specs.Part.{part}
-use Rattle.buffer.specs.Field.{le, le16, le32, le64, read16, read64, length-le}
+use Rattle.buffer.specs.Field.{le, le16, le32, le64, read16, read64}
+use Rattle.buffer.specs.FieldLaws.{length-le}
 use Rattle.format.specs.Runs.{encAll, All}
 use Rattle.call_record.specs.Record.{Argument, simple, cursor, Command, Record, encArgument, encCommand, encRecord, ValidArgument, ValidCommand, ValidRecord}
 use Rattle.call_record.specs.Offset.{IsRecord}

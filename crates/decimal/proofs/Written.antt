@@ -7,7 +7,8 @@ use lib.Dec.{ltb}
 use lib.ListN.{length, set}
 use borrow.Author.Tests.{ltb-true, ltb-false}
 use Rattle.buffer.specs.Cases.{byTest}
-use Rattle.buffer.specs.Part.{put, length-put}
+use Rattle.buffer.specs.Part.{put}
+use Rattle.buffer.specs.PartLaws.{length-put}
 use Rattle.buffer.specs.Step.{put-nil, set-put, put-front}
 use Rattle.decimal.specs.Digits.{digits, digits-one, digits-more, count-one, count-more}
 use Rattle.decimal.specs.DigitLaws.{count-pos}

@@ -11,7 +11,8 @@ use lib.ListN.{length}
 use borrow.Author.Tests.{ltb-false}
 use Rattle.buffer.specs.Cases.{byTest}
 use Rattle.buffer.specs.Same.{Bytes}
-use Rattle.buffer.specs.Part.{put, part-put, part-front}
+use Rattle.buffer.specs.Part.{put}
+use Rattle.buffer.specs.PartLaws.{part-put, part-front}
 use Rattle.config.specs.Limits.{maxBytes}
 use Rattle.config.specs.declared.Settings.{Settings}
 use Rattle.config.specs.declared.CheckedConfig.the-variants.{Fine}

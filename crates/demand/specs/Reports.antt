@@ -26,7 +26,7 @@ use Rattle.book.specs.Book.{Setup, Book, Counts, Answer, Keyed, fresh}
 use Rattle.book.specs.Calls as calls
 use Rattle.book.specs.Calls.{Wanted, Storing, Call, replyTo, afterCalls}
 use Rattle.book.specs.Trace.{Proper}
-use Rattle.book.specs.Demand3.{demand-three}
+use Rattle.book.specs.Demand3Laws.{demand-three}
 use Rattle.planning.specs.Ask.{anyLate}
 use Rattle.planning.specs.Plan as nodes
 use Rattle.plan.specs.Decode.{decodePlan}

@@ -8,7 +8,8 @@ use lib.Dec.{eqb}
 use lib.ListN.{length, take, drop, getD, length-drop, take-append-drop}
 use lib.Seq.{length-take-le}
 use borrow.Author.Tests.{eq-eqb, ne-eqb}
-use Rattle.buffer.specs.Field.{Octets, readLe, length-le, read-at}
+use Rattle.buffer.specs.Field.{Octets, readLe}
+use Rattle.buffer.specs.FieldLaws.{length-le, read-at}
 use Rattle.format.specs.Format.{Format}
 use Rattle.format.specs.Both.{bothF}
 use Rattle.format.specs.Runs.{bytesF, manyF}

@@ -12,7 +12,8 @@ use lib.Dec.{eqb}
 use borrow.Author.Tests.{leb-true, le-leb, ltb-true, lt-ltb, ne-eqb}
 use Rattle.buffer.specs.Cases.{byTest}
 use Rattle.buffer.specs.Same.{Bytes, same-refl, same-eq}
-use Rattle.buffer.specs.Field.{le32, read32, read64, length-le, read-past, read-here}
+use Rattle.buffer.specs.Field.{le32, read32, read64}
+use Rattle.buffer.specs.FieldLaws.{length-le, read-past, read-here}
 use Rattle.buffer.specs.Lists.{drop-past}
 use Rattle.config.specs.Limits.{maxCommands}
 use Rattle.format.specs.Runs.{encAll, All}

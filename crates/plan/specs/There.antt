@@ -6,9 +6,11 @@ use native.Mathlib.Omega.{arith}
 use lib.ListN.{length, drop, length-append, length-drop}
 use lib.Seq.{drop-drop, getD-drop, drop-at}
 use Rattle.buffer.specs.Same.{Bytes}
-use Rattle.buffer.specs.Field.{le32, le64, readLe, read32, read64, length-le, read-past, read-here, read-agree}
+use Rattle.buffer.specs.Field.{le32, le64, readLe, read32, read64}
+use Rattle.buffer.specs.FieldLaws.{length-le, read-past, read-here, read-agree}
 use Rattle.buffer.specs.Lists.{drop-past}
-use Rattle.buffer.specs.Part.{part, part-drop}
+use Rattle.buffer.specs.Part.{part}
+use Rattle.buffer.specs.PartLaws.{part-drop}
 use Rattle.planning.specs.Plan.{Node, nodeBytes, encNode}
 use Rattle.planning.specs.Rules.{GoodNode}
 use Rattle.plan.specs.declared.NodeHead.{NodeHead}

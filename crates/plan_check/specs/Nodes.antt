@@ -8,8 +8,10 @@ use lib.Dec.{eqb}
 use lib.ListN.{length, drop}
 use borrow.Author.Tests.{eqb-true, leb-true, le-leb}
 use Rattle.buffer.specs.Same.{Bytes}
-use Rattle.buffer.specs.Field.{le, le32, le64, readLe, read32, read64, Octets, le-read, read-below}
-use Rattle.buffer.specs.Part.{part, length-part, drop-part}
+use Rattle.buffer.specs.Field.{le, le32, le64, readLe, read32, read64, Octets}
+use Rattle.buffer.specs.FieldLaws.{le-read, read-below}
+use Rattle.buffer.specs.Part.{part}
+use Rattle.buffer.specs.PartLaws.{length-part, drop-part}
 use Rattle.config.specs.Limits.{maxKey, maxCommandKey, maxArguments}
 use Rattle.resp3.specs.Ends.{isValue}
 use Rattle.resp3.specs.Law.{value-law}

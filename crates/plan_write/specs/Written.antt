@@ -7,7 +7,8 @@ use native.Mathlib.Omega.{arith}
 use lib.ListN.{length, set, length-append}
 use Rattle.buffer.specs.Same.{Bytes}
 use Rattle.buffer.specs.Field.{le, le32, le64}
-use Rattle.buffer.specs.Part.{put, put-put}
+use Rattle.buffer.specs.Part.{put}
+use Rattle.buffer.specs.PartLaws.{put-put}
 use Rattle.buffer.specs.Step.{set-put}
 use Rattle.resp3.specs.Value.{encode, nullBytes}
 use Rattle.planning.specs.Plan.{nodeBytes, planHeadSize, nullStart, nullEnd, nodeHeadSize}

@@ -6,7 +6,8 @@ use Prim.Native.Nat.{ℕ, _+_, _≤_}
 use native.Mathlib.Omega.{arith}
 use lib.ListN.{length, length-append}
 use Rattle.buffer.specs.Same.{Bytes}
-use Rattle.buffer.specs.Part.{put, length-put}
+use Rattle.buffer.specs.Part.{put}
+use Rattle.buffer.specs.PartLaws.{length-put}
 use Rattle.buffer.specs.Step.{put-nil}
 use Rattle.cmd.specs.Laws.{Wrote, two-wrote}
 

@@ -6,7 +6,8 @@ use Prim.Native.Nat.{ℕ, _-_, _≤_}
 use native.Mathlib.Omega.{arith}
 use lib.ListN.{length}
 use Rattle.buffer.specs.Same.{Bytes}
-use Rattle.buffer.specs.Part.{part, length-part}
+use Rattle.buffer.specs.Part.{part}
+use Rattle.buffer.specs.PartLaws.{length-part}
 use Rattle.config.specs.declared.Settings.{Settings}
 use Rattle.call_record.specs.Record.{Command}
 use Rattle.cursor.specs.At.{rangeBytes, RangeIn, commandOf}

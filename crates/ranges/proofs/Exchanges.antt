@@ -6,7 +6,8 @@ use native.Mathlib.Omega.{arith}
 use lib.ListN.{length, getD, take, drop, set, length-append, take-append-drop}
 use lib.Seq.{length-take-le}
 use Rattle.buffer.specs.Same.{Bytes}
-use Rattle.buffer.specs.Part.{part, put, length-part, part-at, around-part, drop-part, length-put, put-at, put-put, put-past, put-within}
+use Rattle.buffer.specs.Part.{part, put}
+use Rattle.buffer.specs.PartLaws.{length-part, part-at, around-part, drop-part, length-put, put-at, put-put, put-past, put-within}
 use Rattle.buffer.specs.Step.{part-suc, put-nil, set-put, put-next, getD-put-before, getD-put-after}
 use Rattle.buffer.specs.Move.{exchanged, rotated, rotated-at}
 

@@ -7,7 +7,8 @@ use lib.ListN.{length, getD, take, drop, set, replicate, length-append, length-r
 use lib.Seq.{take-at, drop-at, length-take-le}
 use Rattle.bytes.specs.Bytes.{rev, slice}
 use Rattle.buffer.specs.Same.{Bytes}
-use Rattle.buffer.specs.Part.{part, put, length-part, length-put, part-put, put-put, around-part, drop-part}
+use Rattle.buffer.specs.Part.{part, put}
+use Rattle.buffer.specs.PartLaws.{length-part, length-put, part-put, put-put, around-part, drop-part}
 use Rattle.buffer.specs.Step.{part-suc, part-cons, put-nil, set-put, put-next, put-front, getD-put-before, getD-put-after}
 use Rattle.buffer.specs.Zero.{zeroed}
 use Rattle.buffer.specs.Move.{moved, resized, rotated, rotated-is}

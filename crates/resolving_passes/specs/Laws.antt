@@ -9,7 +9,8 @@ use lib.ListN.{length, length-append}
 use borrow.Author.Tests.{le-leb, lt-leb, leb-true, leb-false}
 use Rattle.buffer.specs.Same.{Bytes}
 use Rattle.buffer.specs.Cases.{byTest}
-use Rattle.buffer.specs.Part.{part, put, length-part, length-put, put-put}
+use Rattle.buffer.specs.Part.{part, put}
+use Rattle.buffer.specs.PartLaws.{length-part, length-put, put-put}
 use Rattle.buffer.specs.Step.{put-nil}
 use Rattle.config.specs.declared.CacheMode.{CacheMode}
 use Rattle.resp3.specs.Value.{Values}

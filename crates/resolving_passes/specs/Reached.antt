@@ -6,7 +6,7 @@ use Prim.Native.Nat.{ℕ, _≤_, _<_}
 use native.Mathlib.Omega.{arith}
 use lib.ListN.{length, drop, length-append, length-drop}
 use Rattle.buffer.specs.Same.{Bytes}
-use Rattle.buffer.specs.Field.{length-le}
+use Rattle.buffer.specs.FieldLaws.{length-le}
 use Rattle.config.specs.declared.CacheMode.{CacheMode}
 use Rattle.format.specs.Runs.{encAll}
 use Rattle.resp3.specs.Value.{Values}

@@ -6,7 +6,8 @@ use Prim.Native.Nat.{ℕ, _+_, _-_, _≤_, _<_}
 use native.Mathlib.Omega.{arith}
 use lib.ListN.{length}
 use Rattle.buffer.specs.Same.{Bytes}
-use Rattle.buffer.specs.Part.{part, part-part, length-part}
+use Rattle.buffer.specs.Part.{part}
+use Rattle.buffer.specs.PartLaws.{part-part, length-part}
 use Rattle.config.specs.declared.CacheMode.the-variants.{OptIn}
 use Rattle.resp3.specs.Value.{Value, Values, none, more, Means}
 use Rattle.resp3_element.specs.declared.Cursor.{Cursor}

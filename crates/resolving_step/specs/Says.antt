@@ -7,7 +7,8 @@ use lib.IntN.{pos}
 use borrow.Author.Tests.{lt-ltb, le-ltb}
 use lib.ListN.{length}
 use Rattle.buffer.specs.Same.{Bytes}
-use Rattle.buffer.specs.Part.{part, length-part}
+use Rattle.buffer.specs.Part.{part}
+use Rattle.buffer.specs.PartLaws.{length-part}
 use Rattle.resp3.specs.Value.{Value, encode, Means, nullBytes}
 use Rattle.resp3_element.specs.declared.Integer.the-variants.{Is}
 use Rattle.resp3_element.specs.Meaning.{isError, integerOf}

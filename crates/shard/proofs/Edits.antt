@@ -6,7 +6,8 @@ use mathlib.Core.List.{[], _∷_, _++_, append-assoc}
 use lib.ListN.{length, length-append, length-replicate, replicate-append-replicate}
 use Rattle.buffer.specs.Same.{Bytes}
 use Rattle.buffer.specs.Field.{le, le32}
-use Rattle.buffer.specs.Part.{put, put-at}
+use Rattle.buffer.specs.Part.{put}
+use Rattle.buffer.specs.PartLaws.{put-at}
 use Rattle.buffer.specs.Zero.{zeroed}
 use Rattle.buffer.specs.Move.{resized, spliced, rotated, resized-none}
 use Rattle.book.specs.Book.{Item, Row, rowBytes}

@@ -5,8 +5,10 @@ use native.Mathlib.Omega.{arith}
 use mathlib.Core.List.{[], _∷_, _++_, append-assoc}
 use lib.ListN.{length, length-append}
 use Rattle.buffer.specs.Same.{Bytes}
-use Rattle.buffer.specs.Field.{readLe, read32, read64, read-past}
-use Rattle.buffer.specs.Part.{part, part-past}
+use Rattle.buffer.specs.Field.{readLe, read32, read64}
+use Rattle.buffer.specs.FieldLaws.{read-past}
+use Rattle.buffer.specs.Part.{part}
+use Rattle.buffer.specs.PartLaws.{part-past}
 use Rattle.book.specs.Book.{Item, Row, rowEntries, entryBytes, rowBytes}
 use Rattle.arena.specs.Layout.{zeros, head, encItem, encItems, encShard}
 use Rattle.arena.specs.Length.{length-head, length-items}

@@ -8,8 +8,10 @@ use mathlib.Core.List.{List, [], _∷_, _++_, append-assoc}
 use lib.ListN.{length, length-append}
 use Rattle.buffer.specs.Cases.{byTest}
 use Rattle.buffer.specs.Same.{Bytes, same}
-use Rattle.buffer.specs.Field.{readLe, read32, read-past}
-use Rattle.buffer.specs.Part.{part, part-past, part-within}
+use Rattle.buffer.specs.Field.{readLe, read32}
+use Rattle.buffer.specs.FieldLaws.{read-past}
+use Rattle.buffer.specs.Part.{part}
+use Rattle.buffer.specs.PartLaws.{part-past, part-within}
 use Rattle.book.specs.Book.{Entry, Item, Row, current, valueFor, setValue, entryBytes}
 use Rattle.arena.specs.Layout.{itemHead, encEntry, encEntries, encItem}
 use Rattle.arena.specs.Length.{length-itemHead, length-entry, length-entries, length-item}

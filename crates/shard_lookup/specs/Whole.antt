@@ -4,7 +4,8 @@ use Prim.Native.Nat.{zero-le}
 use native.Mathlib.Omega.{arith}
 use lib.ListN.{length}
 use Rattle.buffer.specs.Same.{Bytes}
-use Rattle.buffer.specs.Part.{part, part-all}
+use Rattle.buffer.specs.Part.{part}
+use Rattle.buffer.specs.PartLaws.{part-all}
 use Rattle.command_key.specs.Key.{keyBytes, KeyIn}
 use Rattle.command_key.specs.declared.CommandKey.{CommandKey}
 use Rattle.command_key.specs.declared.CommandKey.the-variants.{Part}

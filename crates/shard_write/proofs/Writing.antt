@@ -6,7 +6,8 @@ use mathlib.Core.List.{_++_, append-assoc, append-nil}
 use lib.ListN.{length, length-append}
 use Rattle.buffer.specs.Same.{Bytes}
 use Rattle.buffer.specs.Field.{le, le32, le64}
-use Rattle.buffer.specs.Part.{put, put-put}
+use Rattle.buffer.specs.Part.{put}
+use Rattle.buffer.specs.PartLaws.{put-put}
 use Rattle.book.specs.Book.{newItem, entryBytes}
 use Rattle.arena.specs.Layout.{head, itemHead, encEntry, encEntries, encItem}
 use Rattle.arena.specs.Length.{length-itemHead}

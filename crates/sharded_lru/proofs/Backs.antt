@@ -5,7 +5,8 @@ use native.Mathlib.Omega.{arith}
 use mathlib.Core.Bool.{Bool, true, cond}
 use lib.ListN.{length}
 use Rattle.buffer.specs.Same.{Bytes}
-use Rattle.buffer.specs.Part.{part, put, part-part, part-put-inside, length-put}
+use Rattle.buffer.specs.Part.{part, put}
+use Rattle.buffer.specs.PartLaws.{part-part, part-put-inside, length-put}
 use Rattle.config.specs.declared.Settings.{Settings}
 use Rattle.siphash.specs.Shard.{shardOf}
 use Rattle.resp3.specs.Ends.{isValue}

@@ -8,7 +8,8 @@ use lib.ListN.{length, take, drop}
 use lib.Seq.{drop-drop}
 use borrow.Rule.Slice.PartMut.{putMid}
 use Rattle.buffer.specs.Same.{Bytes}
-use Rattle.buffer.specs.Part.{part, put, length-part}
+use Rattle.buffer.specs.Part.{part, put}
+use Rattle.buffer.specs.PartLaws.{length-part}
 use Rattle.config.specs.Limits.{maxArena}
 use Rattle.config.specs.declared.Settings.{Settings}
 use Rattle.siphash.specs.Sip.{sipHash13}

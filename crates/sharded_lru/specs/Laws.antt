@@ -9,7 +9,8 @@ use lib.Dec.{eqb}
 use borrow.Author.Tests.{eqb-true}
 use Rattle.buffer.specs.Cases.{byTest}
 use Rattle.buffer.specs.Same.{Bytes}
-use Rattle.buffer.specs.Part.{part, put, length-put}
+use Rattle.buffer.specs.Part.{part, put}
+use Rattle.buffer.specs.PartLaws.{length-put}
 use Rattle.config.specs.Limits.{maxArena}
 use Rattle.config.specs.declared.Settings.{Settings}
 use Rattle.siphash.specs.Sip.{sipHash13}

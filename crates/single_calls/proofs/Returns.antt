@@ -4,7 +4,8 @@ use Prim.Native.Nat.{ℕ, _-_}
 use native.Mathlib.Omega.{arith}
 use lib.ListN.{length, replicate, length-replicate}
 use Rattle.buffer.specs.Same.{Bytes}
-use Rattle.buffer.specs.Part.{put, put-all}
+use Rattle.buffer.specs.Part.{put}
+use Rattle.buffer.specs.PartLaws.{put-all}
 use Rattle.buffer.specs.Zero.{zeroed}
 use Rattle.config.specs.Causes.{badConfig}
 use Rattle.config.specs.declared.CheckedConfig.{CheckedConfig}

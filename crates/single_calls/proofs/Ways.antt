@@ -7,7 +7,8 @@ use mathlib.Core.Option.{none, some}
 use lib.ListN.{length}
 use lib.Dec.{eqb}
 use Rattle.buffer.specs.Same.{Bytes}
-use Rattle.buffer.specs.Part.{part, length-part}
+use Rattle.buffer.specs.Part.{part}
+use Rattle.buffer.specs.PartLaws.{length-part}
 use Rattle.config.specs.Causes.{tooLong, badReply, noSpace}
 use Rattle.config.specs.Config.{checked}
 use Rattle.config.specs.declared.Settings.{Settings}

@@ -5,7 +5,8 @@ use native.Mathlib.Omega.{arith}
 use native.Mathlib.Nat.{pow-le-pow-right}
 use lib.ListN.{length, getD, List·getD-eq-default}
 use Rattle.buffer.specs.Same.{Bytes}
-use Rattle.buffer.specs.Field.{readLe, Octets, read-below}
+use Rattle.buffer.specs.Field.{readLe, Octets}
+use Rattle.buffer.specs.FieldLaws.{read-below}
 
 -- a number all of whose bytes stand past the end is 0
 pub read-end : (w : ℕ) (s : Bytes) (at : ℕ) → length s ≤ at → readLe w s at ≡ 0

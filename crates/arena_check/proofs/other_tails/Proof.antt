@@ -5,7 +5,7 @@ use Prim.Native.Nat.{ℕ, _-_}
 use native.Mathlib.Omega.{arith}
 use borrow.Author.Tests.{eqb-false, not-true}
 use Rattle.buffer.specs.Part.{part}
-use Rattle.buffer.specs.Field.{read-in-part, other-read}
+use Rattle.buffer.specs.FieldLaws.{read-in-part, other-read}
 use borrow.Author.Needs.{needs}
 use Rattle.arena_check.proofs.other_tails.Statement.{statement}
 use Rattle.arena_check.proofs.other_tails.Tie as tie

@@ -3,7 +3,8 @@ use mathlib.Core.Path.{_≡_, sym, ap, _∙_}
 use Prim.Native.Nat.{ℕ, _+_, _-_}
 use native.Mathlib.Omega.{arith}
 use Rattle.buffer.specs.Same.{same, same-length}
-use Rattle.buffer.specs.Part.{part, length-part}
+use Rattle.buffer.specs.Part.{part}
+use Rattle.buffer.specs.PartLaws.{length-part}
 use borrow.Author.Needs.{needs}
 use Rattle.arena_check.proofs.same_part.Statement.{statement}
 use Rattle.arena_check.proofs.same_part.Tie as tie

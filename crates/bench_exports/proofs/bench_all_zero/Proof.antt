@@ -4,7 +4,8 @@ use Prim.Native.Nat.{_-_}
 use native.Mathlib.Omega.{arith}
 use lib.ListN.{length}
 use borrow.Author.Needs.{needs}
-use Rattle.buffer.specs.Part.{part, part-all}
+use Rattle.buffer.specs.Part.{part}
+use Rattle.buffer.specs.PartLaws.{part-all}
 use Rattle.buffer.specs.Same.{Bytes}
 use Rattle.buffer.specs.Zero.{allZero}
 use Rattle.bench_exports.proofs.bench_all_zero.Statement.{statement}

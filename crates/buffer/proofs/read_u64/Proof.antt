@@ -1,7 +1,7 @@
 -- `buffer::read_u64` meets its contract: a field is its two halves (`read-add`). Assumes nothing.
 use borrow.Author.Needs.{needs}
 use native.Mathlib.Omega.{arith}
-use Rattle.buffer.specs.Field.{read-add}
+use Rattle.buffer.specs.FieldLaws.{read-add}
 use Rattle.buffer.proofs.read_u64.Statement.{statement}
 use Rattle.buffer.proofs.read_u64.Tie as tie
 

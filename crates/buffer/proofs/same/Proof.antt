@@ -4,7 +4,7 @@ use Prim.Native.Nat.{_+_, _-_, _≤_}
 use native.Mathlib.Omega.{arith}
 use lib.ListN.{length, drop}
 use borrow.Author.Tests.{eq-eqb, ne-eqb}
-use Rattle.buffer.specs.Part.{part-rest}
+use Rattle.buffer.specs.PartLaws.{part-rest}
 use Rattle.buffer.specs.Same.{same, same-length}
 use Rattle.buffer.proofs.Tests.{same-block}
 use Rattle.buffer.proofs.same.Statement.{statement}

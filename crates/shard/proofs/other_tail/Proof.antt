@@ -7,7 +7,8 @@ use lib.ListN.{length}
 use borrow.Author.Tests.{eqb-false, not-true}
 use Rattle.buffer.specs.Same.{Bytes}
 use Rattle.buffer.specs.Part.{part}
-use Rattle.buffer.specs.Field.{read64, read-in-part, other-read}
+use Rattle.buffer.specs.Field.{read64}
+use Rattle.buffer.specs.FieldLaws.{read-in-part, other-read}
 use Rattle.shard.proofs.Fields.{fields}
 use borrow.Author.Needs.{needs}
 use Rattle.shard.proofs.other_tail.Statement.{statement}
