@@ -74,7 +74,7 @@ pub fn command_count(plan: &[u8]) -> u64
     requires { ⌜ planHeadSize ≤ length (now plan) ⌝ }
     ensures { λ r. ⌜ r ≡ readPlan (now (plan .entry)) .commands ⌝ }
 {
-    buffer::read_u32(plan, 4) as u64
+    buffer::read_u32(plan, planning::NULL_END) as u64
 }
 
 // The walk at the plan's first node and the list's first reply.

@@ -8,7 +8,7 @@ use lib.Dec.{eqb, ltb}
 use lib.ListN.{length, getD, set}
 use Rattle.buffer.specs.Same.{Bytes}
 use Rattle.config.specs.declared.Settings.{Settings}
-use Rattle.book.specs.Book.{Item, Row}
+use Rattle.book.specs.Book.{Row}
 use Rattle.book.specs.Each.{Each}
 use Rattle.arena_check.specs.Home.{markedBy}
 use Rattle.sharded_lru.specs.Lent.{Lent, Arena}

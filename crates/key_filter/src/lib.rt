@@ -9,7 +9,6 @@ use config::Settings;
 use shard_lookup::Looked;
 ghost use mathlib.Core.Path.{_≡_};
 ghost use mathlib.Core.Bool.{cond, true};
-ghost use mathlib.Core.List.{List};
 ghost use Prim.Native.Nat.{ℕ, _<_};
 ghost use Rattle.resp3.specs.Ends.{isValue};
 ghost use Rattle.book.specs.Book.{Item, Row, stored, noSpace, lookup, store, on};

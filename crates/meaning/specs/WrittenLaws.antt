@@ -1,16 +1,16 @@
 -- Values as they are written (Written.antt), and the encoder with the tests of validity and depth: what is written is a valid value's encoding within its
 -- levels, and each such is written. Assumes nothing.
-use mathlib.Core.Path.{_≡_, refl, sym, ap, ap₂, _∙_, subst}
+use mathlib.Core.Path.{_≡_, refl, sym, ap, _∙_, subst}
 use mathlib.Core.Logic.{_↔_}
-use mathlib.Core.List.{[], _∷_, _++_}
-use Prim.Native.Nat.{ℕ, zero, suc, _≤_, max}
+use mathlib.Core.List.{[], _∷_}
+use Prim.Native.Nat.{ℕ, zero, suc, _≤_}
 use Prim.Native.Char.{code}
 use native.Mathlib.Omega.{arith}
 use lib.ListN.{length}
 use Rattle.buffer.specs.Same.{Bytes}
 use Rattle.config.specs.Limits.{maxDepth, maxBytes}
 use Rattle.resp3.specs.Value.{Value, Values, Pairs, blobString, simpleString, simpleError, number, null, double, boolean, blobError, verbatimString, bigNumber}
-use Rattle.resp3.specs.Value.{array, map, set, attribute, push, none, more, nil, pair, count, countPairs, counted, below, deepest, deepestPairs, depth}
+use Rattle.resp3.specs.Value.{array, map, set, attribute, push, none, more, nil, pair, count, countPairs, counted, deepest, deepestPairs, depth}
 use Rattle.resp3.specs.Value.{Valid, Valids, ValidPairs, enc, encs, encPairs, encode, Means}
 use Rattle.resp3_prefix.specs.Meaning.{Within}
 use Rattle.meaning.specs.Written.{Row, noValue, oneValue, PairRow, noPair, onePair, Kinds, aBlobString, aSimpleString, aSimpleError, aNumber, aNull}

@@ -5,7 +5,6 @@ use Prim.Native.Nat.{ℕ}
 use mathlib.Core.List.{List, [], _∷_, _++_}
 use lib.ListN.{length, take, drop}
 use Rattle.buffer.specs.Same.{Bytes}
-use Rattle.config.specs.declared.Settings.{Settings}
 use Rattle.commands.specs.MultiKey.{multiKey, singleName}
 use Rattle.resp3.specs.Kinds.{byteOf}
 use Rattle.resp3.specs.Value.{counted}
@@ -14,7 +13,7 @@ use Rattle.call_record.specs.Record.{Argument, simple, Command}
 use Rattle.command_key.specs.Key.{commandKey}
 use Rattle.book.specs.Book.{Answer, hit, miss, stored, noSpace, invalidated, number}
 use Rattle.book.specs.Calls.{Wanted}
-use Rattle.planning.specs.Ask.{Ask, nothing, uncacheable, oneKey, severalKeys, ask}
+use Rattle.planning.specs.Ask.{Ask, nothing, uncacheable, oneKey, severalKeys}
 
 -- ---- What can become of a command (rules P1, P11, P12): the Rust's own three enums, the innermost first
 

@@ -2,7 +2,7 @@
 -- Letters: m mode, c command, o outcome, z a size, s the record's bytes, h the command's head, q a place, ps places, v several keys, x client expiry.
 use mathlib.Core.Path.{_≡_, refl, sym, ap, _∙_}
 use mathlib.Core.List.{List, [], _∷_, _++_}
-use Prim.Native.Nat.{ℕ, _+_, _-_, _<_}
+use Prim.Native.Nat.{ℕ, _+_, _<_}
 use native.Mathlib.Omega.{arith}
 use lib.ListN.{length, length-append}
 use Rattle.buffer.specs.Same.{Bytes}
@@ -18,7 +18,7 @@ use Rattle.book.specs.Calls.{Wanted}
 use Rattle.planning.specs.Outcome as plan
 use Rattle.planning.specs.Outcome.{Place, filled, waiting, missing, item, ignored, notCacheable, singleItem, multipleItem, wholeKey}
 use Rattle.planning.specs.Sent.{keysOf}
-use Rattle.planning.specs.Plan.{servedValue, waitingPlace, placeNodes, nodeBytes, encNode}
+use Rattle.planning.specs.Plan.{placeNodes, nodeBytes, encNode}
 use Rattle.planning.specs.Plan.{handOnKind, servedKind, allServedKind, missingKind, severalKind, waitingKind, endKind}
 use Rattle.planning_ask.specs.Asked.{severalName, pathIn, SeveralIn}
 use Rattle.planning_ask.specs.Keys.{whole-key}

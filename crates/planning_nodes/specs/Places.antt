@@ -2,7 +2,7 @@
 -- those of the places on the rows before. Assumes nothing.
 -- Letters: g settings, t clock, e epoch, x client expiry, s the record's bytes, v several keys, a the arena's bytes, d the plan's, y and z how far it is, q a
 -- place, w and u keys with their command keys.
-use mathlib.Core.Path.{_≡_, refl, sym, ap, _∙_, subst}
+use mathlib.Core.Path.{_≡_, refl, ap, _∙_, subst}
 use mathlib.Core.List.{List, [], _∷_, _++_}
 use Prim.Native.Nat.{ℕ, _+_, _-_, _^_, _≤_, _<_}
 use native.Mathlib.Omega.{arith}
@@ -17,7 +17,6 @@ use Rattle.cursor.specs.At.{rangeBytes, RangeIn}
 use Rattle.cursor.specs.declared.Args.{Args}
 use Rattle.cursor.specs.declared.Range.{Range}
 use Rattle.command_key.specs.declared.CommandKey.the-variants.{Named}
-use Rattle.command_key.specs.Key.{keyBytes}
 use Rattle.cmd.specs.Laws.{Wrote}
 use Rattle.book.specs.Book.{Row}
 use Rattle.book.specs.Calls.{Wanted}
@@ -38,7 +37,7 @@ use Rattle.planning_outcome.specs.Places.{told-hit, told-miss}
 use Rattle.planning_look_up.specs.Looks.{Looks, looks-arena, Turn, turn-start, turn-next, turn-end}
 use Rattle.planning_look_up.specs.Finds.{Finds, place-steady}
 use Rattle.planning_look_up.specs.declared.Found.{Found}
-use Rattle.planning_places.specs.Pieces.{wantAt, placeAt, placesNow}
+use Rattle.planning_places.specs.Pieces.{wantAt, placesNow}
 use Rattle.planning_places.specs.Steps.{placesFrom, places-none, places-more}
 use Rattle.planning_places.specs.Measure.{part-in}
 use Rattle.planning_places.specs.Source.{FitsPlace}

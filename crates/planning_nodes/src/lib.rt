@@ -26,7 +26,7 @@ ghost use Rattle.call_record.specs.Record.{Command};
 ghost use Rattle.cursor.specs.At.{rangeBytes, RangeIn, ArgsHere, commandOf};
 ghost use Rattle.book.specs.Book.{Row};
 ghost use Rattle.planning.specs.Ask.{ask};
-ghost use Rattle.planning.specs.Outcome.{ignored, item, notCacheable, singleItem, wholeKey, wants};
+ghost use Rattle.planning.specs.Outcome.{item, singleItem, wholeKey, wants};
 ghost use Rattle.planning.specs.Plan.{placeNodes, encNode};
 ghost use Rattle.planning_ask.specs.Asked.{wantedIn, SeveralIn, OnTime};
 ghost use Rattle.sharded_lru.specs.Lent.{setupNow, Lent};

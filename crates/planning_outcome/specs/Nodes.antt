@@ -1,10 +1,10 @@
 -- The nodes of an outcome, as bytes, case by case. Assumes nothing.
 -- Letters: v a value, w a key with its command key, x client expiry, ps places.
-use mathlib.Core.Path.{_≡_, refl, sym, ap, ap₂, _∙_}
+use mathlib.Core.Path.{_≡_, refl, ap, ap₂, _∙_}
 use mathlib.Core.List.{List, [], _∷_, _++_, append-nil}
 use Prim.Native.Nat.{ℕ, suc}
 use native.Mathlib.Omega.{arith}
-use lib.ListN.{length, length-append}
+use lib.ListN.{length}
 use Rattle.buffer.specs.Same.{Bytes}
 use Rattle.format.specs.Runs.{encAll}
 use Rattle.book.specs.Calls.{Wanted}

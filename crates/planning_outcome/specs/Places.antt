@@ -8,7 +8,6 @@ use lib.ListN.{length}
 use Rattle.buffer.specs.Same.{Bytes}
 use Rattle.buffer.specs.Part.{part}
 use Rattle.buffer.specs.PartLaws.{length-part}
-use Rattle.config.specs.declared.Settings.{Settings}
 use Rattle.call_record.specs.Record.{Command}
 use Rattle.cursor.specs.At.{rangeBytes, RangeIn, commandOf}
 use Rattle.cursor.specs.declared.Head.{Head}

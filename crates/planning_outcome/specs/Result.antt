@@ -16,7 +16,6 @@ use Rattle.planning.specs.Outcome as plan
 use Rattle.shard_lookup.specs.declared.Looked.{Looked}
 use Rattle.shard_lookup.specs.declared.Looked.the-variants.{Hit, Miss}
 use Rattle.sharded_lru.specs.Lent.{effectIn}
-use Rattle.config.specs.declared.Settings.{Settings}
 use Rattle.planning.specs.Ask.{Ask}
 use Rattle.planning_ask.specs.Asked.{severalName, pathIn, wantedIn, SeveralIn}
 use Rattle.planning_ask.specs.declared.Several.{Several}

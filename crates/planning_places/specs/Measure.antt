@@ -2,7 +2,7 @@
 -- take as blobs. Assumes nothing.
 -- Letters: m what was measured, q a place, s the record's bytes, a the arena's, v several keys, w a key with its command key.
 use mathlib.Core.Path.{_≡_, sym, ap}
-use mathlib.Core.List.{List, [], _∷_, _++_}
+use mathlib.Core.List.{List, [], _∷_}
 use Prim.Native.Nat.{ℕ, _+_, _*_, _^_, _≤_}
 use native.Mathlib.Omega.{arith}
 use lib.ListN.{length, length-append}

@@ -2,8 +2,7 @@
 -- Letters: g settings, rows the rows that the arena holds, t clock, e epoch, s the record's bytes, v several keys, ks keys.
 use mathlib.Core.Path.{_≡_, refl, ap}
 use mathlib.Core.List.{List, [], _∷_, _++_}
-use Prim.Native.Nat.{ℕ, _+_, _≤_}
-use lib.ListN.{length}
+use Prim.Native.Nat.{ℕ}
 use Rattle.buffer.specs.Same.{Bytes}
 use Rattle.config.specs.declared.Settings.{Settings}
 use Rattle.format.specs.Runs.{encAll}
@@ -16,7 +15,7 @@ use Rattle.planning.specs.Outcome.{Place, partKey}
 use Rattle.planning.specs.Sent.{pttls}
 use Rattle.planning_ask.specs.Asked.{severalName, pathIn, wantedIn}
 use Rattle.planning_ask.specs.declared.Several.{Several}
-use Rattle.sharded_lru.specs.Lent.{Lent, setupNow}
+use Rattle.sharded_lru.specs.Lent.{setupNow}
 use Rattle.planning_outcome.specs.Result.{placeOn, placesOn}
 use Rattle.planning_places.specs.declared.Piece.{Piece}
 use Rattle.planning_places.specs.declared.Piece.the-variants.{Key, Pttl}

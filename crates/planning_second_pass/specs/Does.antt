@@ -1,6 +1,6 @@
 -- What the second pass has done for commands: their nodes and what is sent for them are written, and their lookups are done. Assumes nothing.
 -- Letters: g settings, t clock, e epoch, a the arena's bytes, d the plan buffer's, f the send buffer's, x how far the pass is, c command.
-use mathlib.Core.Path.{_≡_, refl, sym, ap, _∙_, subst}
+use mathlib.Core.Path.{_≡_, refl, sym, ap, subst}
 use mathlib.Core.List.{List, [], _∷_, _++_}
 use Prim.Native.Nat.{ℕ, _+_, _≤_}
 use native.Mathlib.Omega.{arith}

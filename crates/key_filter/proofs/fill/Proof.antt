@@ -1,12 +1,11 @@
 -- `key_filter::fill` meets its contract: shard by shard, with the bits of those passed set. Assumes nothing.
 use mathlib.Core.Path.{_≡_, refl, _∙_}
-use Prim.Native.Nat.{_-_, _≤_}
+use Prim.Native.Nat.{_-_}
 use native.Mathlib.Omega.{arith}
 use lib.ListN.{length}
 use Rattle.sharded_lru.specs.Laws.{ends-within}
 use Rattle.sharded_lru.proofs.Parts.{lent-holds}
 use Rattle.key_filter.proofs.Paths.{MarkedTo, marked-next, marked-all}
-use borrow.Author.Needs.{needs}
 use Rattle.key_filter.proofs.fill.Statement.{statement}
 use Rattle.key_filter.proofs.fill.Tie as tie
 

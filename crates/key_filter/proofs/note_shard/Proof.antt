@@ -10,7 +10,6 @@ use Rattle.shard.proofs.Walk.{items-count, Walk, begun, Here, here, passed, fin
 use Rattle.shard.proofs.Items.{stands, there}
 use Rattle.key_filter.specs.Filter.{Grows}
 use Rattle.key_filter.proofs.Paths.{grows-set, Left, left-next}
-use borrow.Author.Needs.{needs}
 use Rattle.key_filter.proofs.note_shard.Statement.{statement}
 use Rattle.key_filter.proofs.note_shard.Tie as tie
 

@@ -1,6 +1,5 @@
 -- `measure` meets its contract: what is left and what was measured come to the whole. Assumes nothing.
-use mathlib.Core.Path.{_≡_}
-use Prim.Native.Nat.{ℕ, _+_, _-_}
+use Prim.Native.Nat.{ℕ, _-_}
 use native.Mathlib.Omega.{arith}
 use Rattle.planning_places.specs.Steps.{keys-few}
 use Rattle.planning_places.specs.Measure as laws

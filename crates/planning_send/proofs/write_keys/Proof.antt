@@ -1,5 +1,5 @@
 -- `write_keys` meets its contract: one writer after the other. Assumes nothing.
-use mathlib.Core.Path.{refl, sym, ap, _∙_}
+use mathlib.Core.Path.{refl, sym}
 use mathlib.Core.List.{_++_}
 use Rattle.cmd.specs.Pack.{blobBytes}
 use Rattle.plan_write.specs.Wrote.{wrote-as, wrote-both, room-is, room-first, room-second}

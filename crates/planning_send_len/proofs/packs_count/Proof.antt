@@ -1,5 +1,5 @@
 -- `packs_count` meets its contract, case by case. Assumes nothing.
-use mathlib.Core.Path.{sym, ap, subst, _∙_}
+use mathlib.Core.Path.{sym, ap, subst}
 use native.Mathlib.Omega.{arith}
 use Rattle.planning_outcome.specs.declared.CacheableCommand.{CacheableCommand}
 use Rattle.planning_send_len.specs.Counts as counts

@@ -1,7 +1,5 @@
 -- `several_len` meets its contract. Assumes nothing.
-use mathlib.Core.Path.{ap}
 use native.Mathlib.Omega.{arith}
-use lib.ListN.{length}
 use Rattle.planning_send_len.specs.Lengths as lengths
 use borrow.Author.Needs.{needs}
 use Rattle.planning_send_len.proofs.several_len.Statement.{statement}

@@ -3,10 +3,6 @@ use Rattle.sharded_lru.proofs.Admits.{bad-config, bounds, an-image, no-
 use borrow.Author.Needs.{needs}
 use Rattle.sharded_lru.proofs.admit.Statement.{statement}
 use Rattle.sharded_lru.proofs.admit.Tie as tie
-use Rattle.sharded_lru.proofs.admit.Reads as reads
-use Rattle.sharded_lru.proofs.admit.Lts as lts
-use Rattle.arena_check.proofs.is_image.Reads as is-image-reads
-use Rattle.config.proofs.check_config.Reads as check-config-reads
 
 check-config-requires : tie.Need-check-config-requires
 check-config-requires c κs = search needs

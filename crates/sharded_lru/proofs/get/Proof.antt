@@ -5,11 +5,6 @@ use Rattle.sharded_lru.proofs.Backs.{lookup-back, told-back}
 use borrow.Author.Needs.{needs}
 use Rattle.sharded_lru.proofs.get.Statement.{statement}
 use Rattle.sharded_lru.proofs.get.Tie as tie
-use Rattle.sharded_lru.proofs.get.Reads as reads
-use Rattle.sharded_lru.proofs.get.Lts as lts
-use Rattle.shard_lookup.proofs.lookup_in.Reads as lookup-in-reads
-use Rattle.sharded_lru.proofs.placed.Reads as placed-reads
-use Rattle.sharded_lru.proofs.shard_start.Reads as shard-start-reads
 
 shard-start-requires : tie.Need-shard-start-requires
 shard-start-requires c κs = shards-below _ _ (c .before .before .before .pre .0)

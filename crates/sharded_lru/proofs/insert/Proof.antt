@@ -5,10 +5,6 @@ use Rattle.sharded_lru.proofs.Backs.{store-back}
 use borrow.Author.Needs.{needs}
 use Rattle.sharded_lru.proofs.insert.Statement.{statement}
 use Rattle.sharded_lru.proofs.insert.Tie as tie
-use Rattle.sharded_lru.proofs.insert.Reads as reads
-use Rattle.sharded_lru.proofs.insert.Lts as lts
-use Rattle.shard_store.proofs.store_in.Reads as store-in-reads
-use Rattle.sharded_lru.proofs.shard_start.Reads as shard-start-reads
 
 shard-start-requires : tie.Need-shard-start-requires
 shard-start-requires c κs = shards-below _ _ (c .before .before .before .before .pre .0)

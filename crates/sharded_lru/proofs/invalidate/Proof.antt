@@ -7,10 +7,6 @@ use Rattle.sharded_lru.proofs.Parts.{shards-below, key-ends, key-below,
 use borrow.Author.Needs.{needs}
 use Rattle.sharded_lru.proofs.invalidate.Statement.{statement}
 use Rattle.sharded_lru.proofs.invalidate.Tie as tie
-use Rattle.sharded_lru.proofs.invalidate.Reads as reads
-use Rattle.sharded_lru.proofs.invalidate.Lts as lts
-use Rattle.shard.proofs.invalidate_in.Reads as invalidate-in-reads
-use Rattle.sharded_lru.proofs.shard_start.Reads as shard-start-reads
 
 shard-start-requires : tie.Need-shard-start-requires
 shard-start-requires c κs = shards-below _ _ (c .before .before .pre)

@@ -11,9 +11,6 @@ use Rattle.sharded_lru.proofs.Clears.{cleared, cleared-here, clear-firs
 use borrow.Author.Needs.{needs}
 use Rattle.sharded_lru.proofs.invalidate_all.Statement.{statement}
 use Rattle.sharded_lru.proofs.invalidate_all.Tie as tie
-use Rattle.sharded_lru.proofs.invalidate_all.Reads as reads
-use Rattle.sharded_lru.proofs.invalidate_all.Lts as lts
-use Rattle.shard.proofs.clear.Reads as clear-reads
 
 abbrev Inv-loop : tie.InvT-loop
 Inv-loop arena₀ g i₀ n₀ arena i n =

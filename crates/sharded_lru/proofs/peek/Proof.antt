@@ -6,11 +6,6 @@ use Rattle.sharded_lru.proofs.Backs.{peek-told, told-here}
 use borrow.Author.Needs.{needs}
 use Rattle.sharded_lru.proofs.peek.Statement.{statement}
 use Rattle.sharded_lru.proofs.peek.Tie as tie
-use Rattle.sharded_lru.proofs.peek.Reads as reads
-use Rattle.sharded_lru.proofs.peek.Lts as lts
-use Rattle.shard_lookup.proofs.peek_in.Reads as peek-in-reads
-use Rattle.sharded_lru.proofs.placed.Reads as placed-reads
-use Rattle.sharded_lru.proofs.shard_start.Reads as shard-start-reads
 
 shard-start-requires : tie.Need-shard-start-requires
 shard-start-requires c κs = shards-below _ _ (c .before .before .before .pre .0)

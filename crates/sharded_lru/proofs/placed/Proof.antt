@@ -5,8 +5,6 @@ use Rattle.sharded_lru.specs.Placed.{placedAt, Within}
 use borrow.Author.Needs.{needs}
 use Rattle.sharded_lru.proofs.placed.Statement.{statement}
 use Rattle.sharded_lru.proofs.placed.Tie as tie
-use Rattle.sharded_lru.proofs.placed.Reads as reads
-use Rattle.sharded_lru.proofs.placed.Lts as lts
 
 enum-known-found : tie.Need-enum-known-found
 enum-known-found c = search needs

@@ -6,9 +6,6 @@ use Rattle.sharded_lru.proofs.Parts.{start-below}
 use borrow.Author.Needs.{needs}
 use Rattle.sharded_lru.proofs.shard_start.Statement.{statement}
 use Rattle.sharded_lru.proofs.shard_start.Tie as tie
-use Rattle.sharded_lru.proofs.shard_start.Reads as reads
-use Rattle.sharded_lru.proofs.shard_start.Lts as lts
-use Rattle.siphash.proofs.shard_of.Reads as shard-of-reads
 
 shard-of-requires : tie.Need-shard-of-requires
 shard-of-requires c κs = search needs
