@@ -78,17 +78,18 @@ loop-less c =
     omega (arith, z .far w, z .near w)
 
 loop-again : tie.Need-loop-again Inv-loop μ-loop
-loop-again c = (
-  λ ns es rs h. law.keep-step _ _ _ _ _ _ _ _ _ _ _ _ _ _ (c₉ .before .before .if1 .taken)
-      (c .before .before .before .before .before .before .before .before .before .before .step-at .ensures)
-      (sym (c .before .before .before .before .before .before .before .before .before .is-wrong .ensures)
-      ∙ c .before .before .before .before .before .before .before .before .if2 .left)
-      (c .before .before .before .before .before .keep .ensures .0) (c .before .before .before .before .before .keep .ensures .1)
-      (c₉ .before .before .before .before .loop .inv .0 ns es rs h),
-  c .before .before .before .before .before .keep .ensures .2,
-  c .before .before .before .before .arena .given ∙ c₉ .before .before .before .before .loop .inv .2,
-  c .before .before .seen .given ∙ c₉ .before .before .before .before .loop .inv .3,
-)
+loop-again c =
+    let c₉ = c .before .before .before .before .before .before .before .before .before in (
+      λ ns es rs h. law.keep-step _ _ _ _ _ _ _ _ _ _ _ _ _ _ (c₉ .before .before .if1 .taken)
+          (c .before .before .before .before .before .before .before .before .before .before .step-at .ensures)
+          (sym (c .before .before .before .before .before .before .before .before .before .is-wrong .ensures)
+          ∙ c .before .before .before .before .before .before .before .before .if2 .left)
+          (c .before .before .before .before .before .keep .ensures .0) (c .before .before .before .before .before .keep .ensures .1)
+          (c₉ .before .before .before .before .loop .inv .0 ns es rs h),
+      c .before .before .before .before .before .keep .ensures .2,
+      c .before .before .before .before .arena .given ∙ c₉ .before .before .before .before .loop .inv .2,
+      c .before .before .seen .given ∙ c₉ .before .before .before .before .loop .inv .3,
+    )
 
 same-length-3 : tie.Need-same-length-3 Inv-loop μ-loop
 same-length-3 c = c .before .before .loop .inv .2
