@@ -59,7 +59,7 @@ fn plan_command(
 }
 
 // All commands, in their order.
-fn plan_each(
+pub fn plan_commands(
     arena: &mut [u8],
     plan: &mut [u8],
     send: &mut [u8],
@@ -83,44 +83,4 @@ fn plan_each(
         left -= 1;
     }
     y
-}
-
-// The same with a filter that is made first, of as many words as the keys' bits need.
-fn plan_filtered(
-    arena: &mut [u8],
-    plan: &mut [u8],
-    send: &mut [u8],
-    bytes: &[u8],
-    k: Commands,
-    g: Settings,
-    when: Now,
-    x: Progress,
-) -> Progress
-    requires { ⌜ dry.Planable g (when .clock) (now bytes) (k .left) (k .at) × (length (now bytes) ≤ maxBytes) × Arena g (now arena) × Room g (when .clock) (when .epoch) (commandsOf (now bytes) k) (now arena) (now plan) (now send) x × (x .sent + 2 ^ 26 * k .left < 2 ^ 63) ⌝ }
-    ensures { λ r. ⌜ Does g (when .clock) (when .epoch) (commandsOf (now (bytes .entry)) k) (now (arena .entry)) (now (plan .entry)) (now (send .entry)) x (now (arena .exit)) (now (plan .exit)) (now (send .exit)) r × (r .sent ≤ x .sent + 2 ^ 26 * k .left) ⌝ }
-{
-    let mut seen = [0u64; 1024];
-    key_filter::fill(arena, g, &mut seen);
-    plan_each(arena, plan, send, bytes, k, g, when, x, &seen)
-}
-
-// All commands, in their order. A filter pays from some dozens of keys on.
-pub fn plan_commands(
-    arena: &mut [u8],
-    plan: &mut [u8],
-    send: &mut [u8],
-    bytes: &[u8],
-    k: Commands,
-    g: Settings,
-    when: Now,
-    x: Progress,
-) -> Progress
-    requires { ⌜ dry.Planable g (when .clock) (now bytes) (k .left) (k .at) × (length (now bytes) ≤ maxBytes) × Arena g (now arena) × Room g (when .clock) (when .epoch) (commandsOf (now bytes) k) (now arena) (now plan) (now send) x × (x .sent + 2 ^ 26 * k .left < 2 ^ 63) ⌝ }
-    ensures { λ r. ⌜ Does g (when .clock) (when .epoch) (commandsOf (now (bytes .entry)) k) (now (arena .entry)) (now (plan .entry)) (now (send .entry)) x (now (arena .exit)) (now (plan .exit)) (now (send .exit)) r × (r .sent ≤ x .sent + 2 ^ 26 * k .left) ⌝ }
-{
-    if bytes.len() < 2048 {
-        let none = [0u64; 0];
-        return plan_each(arena, plan, send, bytes, k, g, when, x, &none);
-    }
-    plan_filtered(arena, plan, send, bytes, k, g, when, x)
 }
