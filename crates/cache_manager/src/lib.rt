@@ -18,6 +18,7 @@ ghost use Rattle.call_record.specs.Check.{checkDef};
 ghost use Rattle.cursor.specs.At.{commandsOf, recordAt};
 ghost use Rattle.book.specs.Book.{Row, Book};
 ghost use Rattle.sharded_lru.specs.Lent.{setupNow, Lent, Arena};
+ghost use Rattle.key_filter.specs.Filter.{Filtered};
 ghost use Rattle.planning_look_up.specs.Looks.{Keeps};
 ghost use Rattle.planning_dry_pass.specs.Dry.{Planable};
 ghost use Rattle.call_record.specs.declared.Checked.the-variants.{Fine};
@@ -83,8 +84,9 @@ fn is_short(
     when: Now,
     plan: usize,
     send: usize,
+    seen: &[u64],
 ) -> bool
-    requires { ⌜ Planable g (when .clock) (now bytes) (k .left) (k .at) × (length (now bytes) ≤ maxBytes) × Arena g (now arena) ⌝ }
+    requires { ⌜ Planable g (when .clock) (now bytes) (k .left) (k .at) × (length (now bytes) ≤ maxBytes) × Filtered g (now arena) (now seen) ⌝ }
     ensures { λ r. ⌜ ((rows : ℕ → Row) → Lent g (now (arena .entry)) rows
         → r ≡ (ltb plan (length (planBytes (setupNow g) rows (when .clock) (when .epoch) g transaction (commandsOf (now (bytes .entry)) k))) || ltb send
         (length (sendBytes (setupNow g) rows (when .clock) (when .epoch) g transaction (commandsOf (now (bytes .entry)) k))))) ⌝ }
@@ -99,7 +101,7 @@ fn is_short(
         short: false,
     };
     let q = room::spend(empty, planning_send_len::wrap_len(transaction));
-    planning_dry_pass::dry_pass(bytes, k, arena, g, when, p, q)
+    planning_dry_pass::dry_pass(bytes, k, arena, g, when, p, q, seen)
 }
 
 // Both buffers written, where there is room, and the lookups done.
@@ -113,10 +115,11 @@ fn write_pipeline(
     g: Settings,
     when: Now,
     counts: Statistics,
+    seen: &[u64],
 ) -> CachedPipeline
-    requires { ⌜ Planable g (when .clock) (now bytes) (k .left) (k .at) × (length (now bytes) ≤ maxBytes) × Arena g (now arena) × (k .left ≤ maxCommands)
-        × ((rows : ℕ → Row) → Lent g (now arena) rows → (length
-        (planBytes (setupNow g) rows (when .clock) (when .epoch) g transaction (commandsOf (now bytes) k)) ≤ length (now plan))
+    requires { ⌜ Planable g (when .clock) (now bytes) (k .left) (k .at) × (length (now bytes) ≤ maxBytes) × Filtered g (now arena) (now seen)
+        × (k .left ≤ maxCommands) × ((rows : ℕ → Row) → Lent g (now arena) rows
+        → (length (planBytes (setupNow g) rows (when .clock) (when .epoch) g transaction (commandsOf (now bytes) k)) ≤ length (now plan))
         × (length (sendBytes (setupNow g) rows (when .clock) (when .epoch) g transaction (commandsOf (now bytes) k)) ≤ length (now send))) ⌝ }
     ensures { λ r. ⌜ ((bk : Book) → Keeps g (now (arena .entry)) counts bk
         → Passed g (when .clock) (when .epoch) transaction (commandsOf (now (bytes .entry)) k) bk (now (plan .entry)) (now (send .entry)) (now (arena .exit))
@@ -131,7 +134,7 @@ fn write_pipeline(
         sent: 0,
         counts,
     };
-    let y = planning_second_pass::plan_commands(arena, plan, send, bytes, k, g, when, x);
+    let y = planning_second_pass::plan_commands(arena, plan, send, bytes, k, g, when, x, seen);
     let end = planning_send_len::write_end(send, y.from, transaction);
     let after = y.counts;
     let written = written_of(transaction, y.to, end, y.sent);
@@ -151,7 +154,69 @@ fn refused(cause: u64, counts: Statistics) -> CachedPipeline
     }
 }
 
-// Planning a call record that is one.
+// Planning a call record that is one, with a filter of keys that tells of the arena (crate key_filter).
+fn plan_seen(
+    arena: &mut [u8],
+    plan: &mut [u8],
+    send: &mut [u8],
+    bytes: &[u8],
+    g: Settings,
+    when: Now,
+    counts: Statistics,
+    seen: &[u64],
+) -> CachedPipeline
+    requires { ⌜ Filtered g (now arena) (now seen) × (length (now bytes) ≤ maxBytes) × (checkDef (now bytes) ≡ Fine) ⌝ }
+    ensures { λ r. ⌜ ((rows : ℕ → Row) (next : ℕ) → Lent g (now (arena .entry)) rows
+        → Leaves (recorded (when .clock) (when .epoch) (now (bytes .entry)) (now (plan .entry)) (now (send .entry))
+        (holding (now (arena .entry)) (countsOf counts) next) g rows (recordAt (now (bytes .entry)))) (now (arena .exit)) (now (plan .exit))
+        (now (send .exit)) r) ⌝ }
+{
+    let k = cursor::commands_of(bytes);
+    if planning_ask::any_late(bytes, k, g, when.clock) {
+        return refused(config::LATE_EXPIRY, counts);
+    }
+    let transaction = cursor::is_transaction(bytes);
+    let n = plan.len();
+    let m = send.len();
+    if is_short(bytes, k, transaction, arena, g, when, n, m, seen) {
+        return refused(config::SHORT_BUFFER, counts);
+    }
+    write_pipeline(
+        arena,
+        plan,
+        send,
+        bytes,
+        k,
+        transaction,
+        g,
+        when,
+        counts,
+        seen,
+    )
+}
+
+// The same with a filter that is made first, of as many words as the keys' bits need; it serves both passes.
+fn plan_filtered(
+    arena: &mut [u8],
+    plan: &mut [u8],
+    send: &mut [u8],
+    bytes: &[u8],
+    g: Settings,
+    when: Now,
+    counts: Statistics,
+) -> CachedPipeline
+    requires { ⌜ Arena g (now arena) × (length (now bytes) ≤ maxBytes) × (checkDef (now bytes) ≡ Fine) ⌝ }
+    ensures { λ r. ⌜ ((rows : ℕ → Row) (next : ℕ) → Lent g (now (arena .entry)) rows
+        → Leaves (recorded (when .clock) (when .epoch) (now (bytes .entry)) (now (plan .entry)) (now (send .entry))
+        (holding (now (arena .entry)) (countsOf counts) next) g rows (recordAt (now (bytes .entry)))) (now (arena .exit)) (now (plan .exit))
+        (now (send .exit)) r) ⌝ }
+{
+    let mut seen = [0u64; 1024];
+    key_filter::fill(arena, g, &mut seen);
+    plan_seen(arena, plan, send, bytes, g, when, counts, &seen)
+}
+
+// Planning a call record that is one. A filter pays from some dozens of keys on.
 fn plan_record(
     arena: &mut [u8],
     plan: &mut [u8],
@@ -167,17 +232,11 @@ fn plan_record(
         (holding (now (arena .entry)) (countsOf counts) next) g rows (recordAt (now (bytes .entry)))) (now (arena .exit)) (now (plan .exit))
         (now (send .exit)) r) ⌝ }
 {
-    let k = cursor::commands_of(bytes);
-    if planning_ask::any_late(bytes, k, g, when.clock) {
-        return refused(config::LATE_EXPIRY, counts);
+    if bytes.len() < 2048 {
+        let none = [0u64; 0];
+        return plan_seen(arena, plan, send, bytes, g, when, counts, &none);
     }
-    let transaction = cursor::is_transaction(bytes);
-    let n = plan.len();
-    let m = send.len();
-    if is_short(bytes, k, transaction, arena, g, when, n, m) {
-        return refused(config::SHORT_BUFFER, counts);
-    }
-    write_pipeline(arena, plan, send, bytes, k, transaction, g, when, counts)
+    plan_filtered(arena, plan, send, bytes, g, when, counts)
 }
 
 // Planning that causes 1 and 9 admitted.

@@ -158,7 +158,7 @@ pub fn size_of(bytes: &[u8], head: Head, arena: &[u8], g: Settings, when: Now) -
 }
 
 // Whether either room is short for what the commands take.
-fn dry_each(
+pub fn dry_pass(
     bytes: &[u8],
     k: Commands,
     arena: &[u8],
@@ -187,48 +187,4 @@ fn dry_each(
         left -= 1;
     }
     p.short || q.short
-}
-
-// The same with a filter that is made first, of as many words as the keys' bits need.
-fn dry_filtered(
-    bytes: &[u8],
-    k: Commands,
-    arena: &[u8],
-    g: Settings,
-    when: Now,
-    plan: Room,
-    send: Room,
-) -> bool
-    requires { ⌜ Planable g (when .clock) (now bytes) (k .left) (k .at) × (length (now bytes) ≤ maxBytes) × Arena g (now arena) ⌝ }
-    ensures { λ r. ⌜ ((rows : ℕ → Row) → Lent g (now (arena .entry)) rows
-        → r ≡ (spent plan (length (allNodes (setupNow g) rows (when .clock) (when .epoch) (ask g (when .clock))
-        (commandsOf (now (bytes .entry)) k))) .short || spent send
-        (length (allSent (setupNow g) rows (when .clock) (when .epoch) (ask g (when .clock)) (g .mode) (commandsOf (now (bytes .entry)) k))) .short)) ⌝ }
-{
-    let mut seen = [0u64; 1024];
-    key_filter::fill(arena, g, &mut seen);
-    dry_each(bytes, k, arena, g, when, plan, send, &seen)
-}
-
-// Whether either room is short for what the commands take. A filter pays from some dozens of keys on.
-pub fn dry_pass(
-    bytes: &[u8],
-    k: Commands,
-    arena: &[u8],
-    g: Settings,
-    when: Now,
-    plan: Room,
-    send: Room,
-) -> bool
-    requires { ⌜ Planable g (when .clock) (now bytes) (k .left) (k .at) × (length (now bytes) ≤ maxBytes) × Arena g (now arena) ⌝ }
-    ensures { λ r. ⌜ ((rows : ℕ → Row) → Lent g (now (arena .entry)) rows
-        → r ≡ (spent plan (length (allNodes (setupNow g) rows (when .clock) (when .epoch) (ask g (when .clock))
-        (commandsOf (now (bytes .entry)) k))) .short || spent send
-        (length (allSent (setupNow g) rows (when .clock) (when .epoch) (ask g (when .clock)) (g .mode) (commandsOf (now (bytes .entry)) k))) .short)) ⌝ }
-{
-    if bytes.len() < 2048 {
-        let none = [0u64; 0];
-        return dry_each(bytes, k, arena, g, when, plan, send, &none);
-    }
-    dry_filtered(bytes, k, arena, g, when, plan, send)
 }

@@ -13,7 +13,7 @@ ghost use lib.ListN.{length};
 ghost use Rattle.config.specs.Limits.{maxBytes};
 ghost use Rattle.cursor.specs.At.{commandOf, commandsOf};
 ghost use Rattle.book.specs.Book.{Row};
-ghost use Rattle.sharded_lru.specs.Lent.{setupNow, Lent, Arena};
+ghost use Rattle.sharded_lru.specs.Lent.{setupNow, Lent};
 ghost use Rattle.key_filter.specs.Filter.{Filtered};
 ghost use Rattle.planning_outcome.specs.Sizes.{nodesFor, sentFor};
 ghost use Rattle.planning_dry_pass.specs.Dry as dry;
@@ -66,7 +66,7 @@ fn plan_command(
 }
 
 // All commands, in their order.
-fn plan_each(
+pub fn plan_commands(
     arena: &mut [u8],
     plan: &mut [u8],
     send: &mut [u8],
@@ -92,48 +92,4 @@ fn plan_each(
         left -= 1;
     }
     y
-}
-
-// The same with a filter that is made first, of as many words as the keys' bits need.
-fn plan_filtered(
-    arena: &mut [u8],
-    plan: &mut [u8],
-    send: &mut [u8],
-    bytes: &[u8],
-    k: Commands,
-    g: Settings,
-    when: Now,
-    x: Progress,
-) -> Progress
-    requires { ⌜ dry.Planable g (when .clock) (now bytes) (k .left) (k .at) × (length (now bytes) ≤ maxBytes) × Arena g (now arena)
-        × Room g (when .clock) (when .epoch) (commandsOf (now bytes) k) (now arena) (now plan) (now send) x × (x .sent + 2 ^ 26 * k .left < 2 ^ 63) ⌝ }
-    ensures { λ r. ⌜ Does g (when .clock) (when .epoch) (commandsOf (now (bytes .entry)) k) (now (arena .entry)) (now (plan .entry)) (now (send .entry)) x
-        (now (arena .exit)) (now (plan .exit)) (now (send .exit)) r × (r .sent ≤ x .sent + 2 ^ 26 * k .left) ⌝ }
-{
-    let mut seen = [0u64; 1024];
-    key_filter::fill(arena, g, &mut seen);
-    plan_each(arena, plan, send, bytes, k, g, when, x, &seen)
-}
-
-// All commands, in their order. A filter pays from some dozens of keys on.
-pub fn plan_commands(
-    arena: &mut [u8],
-    plan: &mut [u8],
-    send: &mut [u8],
-    bytes: &[u8],
-    k: Commands,
-    g: Settings,
-    when: Now,
-    x: Progress,
-) -> Progress
-    requires { ⌜ dry.Planable g (when .clock) (now bytes) (k .left) (k .at) × (length (now bytes) ≤ maxBytes) × Arena g (now arena)
-        × Room g (when .clock) (when .epoch) (commandsOf (now bytes) k) (now arena) (now plan) (now send) x × (x .sent + 2 ^ 26 * k .left < 2 ^ 63) ⌝ }
-    ensures { λ r. ⌜ Does g (when .clock) (when .epoch) (commandsOf (now (bytes .entry)) k) (now (arena .entry)) (now (plan .entry)) (now (send .entry)) x
-        (now (arena .exit)) (now (plan .exit)) (now (send .exit)) r × (r .sent ≤ x .sent + 2 ^ 26 * k .left) ⌝ }
-{
-    if bytes.len() < 2048 {
-        let none = [0u64; 0];
-        return plan_each(arena, plan, send, bytes, k, g, when, x, &none);
-    }
-    plan_filtered(arena, plan, send, bytes, k, g, when, x)
 }

@@ -27,7 +27,7 @@ dry-pass-requires c κs = search needs
 
 returns : tie.Need-returns
 returns c = λ rows o.
-    let a = c .before .before .before .before .before .before .args in
+    let a = c .before .before .before .before .before .before .before .args in
     let C = commandsAt (a .bytes .now) (a .k .left) (a .k .at) in
     c .dry-pass .ensures rows o
     ∙ ap₂ (λ (x : Room) (y : Room). spent x (length (allNodes (setupNow (a .g)) rows (a .when .clock) (a .when .epoch)

@@ -14,23 +14,23 @@ cast-write-plan-head c = search needs
 
 write-plan-head-requires : tie.Need-write-plan-head-requires
 write-plan-head-requires c κs =
-    let w = c .before .before .before .before .before .pre in
-    let a = c .before .before .before .before .before .args in
+    let w = c .before .before .before .before .before .before .pre in
+    let a = c .before .before .before .before .before .before .args in
     laws.head-fits (a .g) (a .when .clock) (a .when .epoch) (a .transaction) (commandsAt (a .bytes .now) (a .k .left) (a .k .at)) (a .arena .now) (a .plan .now)
-    (a .send .now) (w .4) (w .2)
+    (a .send .now) (w .4) (w .2 .arena)
 
 write-start-requires : tie.Need-write-start-requires
 write-start-requires c κs =
-    let w = c .before .before .before .before .before .before .before .before .before .pre in
-    let a = c .before .before .before .before .before .before .before .before .before .args in
+    let w = c .before .before .before .before .before .before .before .before .before .before .pre in
+    let a = c .before .before .before .before .before .before .before .before .before .before .args in
     laws.start-fits (a .g) (a .when .clock) (a .when .epoch) (a .transaction) (commandsAt (a .bytes .now) (a .k .left) (a .k .at)) (a .arena .now)
     (a .plan .now)
-    (a .send .now) (w .4) (w .2)
+    (a .send .now) (w .4) (w .2 .arena)
 
 plan-commands-requires : tie.Need-plan-commands-requires
 plan-commands-requires c κs =
-    let w = c .before .before .before .before .before .before .before .before .before .before .before .before .before .before .before .pre in
-    let a = c .before .before .before .before .before .before .before .before .before .before .before .before .before .before .before .args in
+    let w = c .before .before .before .before .before .before .before .before .before .before .before .before .before .before .before .before .pre in
+    let a = c .before .before .before .before .before .before .before .before .before .before .before .before .before .before .before .before .args in
     let k = w .3 in (
       w .0,
       w .1,
@@ -45,20 +45,20 @@ plan-commands-requires c κs =
 write-end-requires : tie.Need-write-end-requires
 write-end-requires c κs =
     let c₉ = c .before .before .before .before .before .before .before .before .before in
-    let w = c₉ .before .before .before .before .before .before .before .before .before .before .before .before .before .before .pre in
-    let a = c₉ .before .before .before .before .before .before .before .before .before .before .before .before .before .before .args in
+    let w = c₉ .before .before .before .before .before .before .before .before .before .before .before .before .before .before .before .pre in
+    let a = c₉ .before .before .before .before .before .before .before .before .before .before .before .before .before .before .before .args in
     laws.end-room (a .g) (a .when .clock) (a .when .epoch) (a .transaction) (commandsAt (a .bytes .now) (a .k .left) (a .k .at)) (a .arena .now) (a .plan .now)
     (a .send .now) _ _ _ _ (a .k .left) (a .counts) (commands-count (a .bytes .now) (a .k .left) (a .k .at))
     (c₉ .before .before .before .before .before .before .before .before .write-plan-head .ensures)
     (c₉ .before .before .before .before .write-start .ensures) (w .4) _ _ _ _
-    (c .before .before .before .before .before .before .before .plan-commands .ensures .0) (w .2)
+    (c .before .before .before .before .before .before .before .plan-commands .ensures .0) (w .2 .arena)
 
 written-of-requires : tie.Need-written-of-requires
 written-of-requires c κs =
     let c₉ = c .before .before .before .before .before .before .before .before .before in
     let c₁₈ = c₉ .before .before .before .before .before .before .before .before .before in
     let b = c₉ .before .before .plan-commands .ensures .1 in
-    let k = c₁₈ .before .before .before .before .before .before .before .before .before .pre .3 in
+    let k = c₁₈ .before .before .before .before .before .before .before .before .before .before .pre .3 in
     omega arith
 
 same-length : tie.Need-same-length
@@ -74,8 +74,8 @@ returns : tie.Need-returns
 returns c =
     let c₉ = c .before .before .before .before .before .before .before .before .before in
     let c₁₈ = c₉ .before .before .before .before .before .before .before .before .before in
-    let w = c₁₈ .before .before .before .before .before .before .before .before .before .before .pre in
-    let a = c₁₈ .before .before .before .before .before .before .before .before .before .before .args in
+    let w = c₁₈ .before .before .before .before .before .before .before .before .before .before .before .pre in
+    let a = c₁₈ .before .before .before .before .before .before .before .before .before .before .before .args in
     laws.passed (a .g) (a .when .clock) (a .when .epoch) (a .transaction) (commandsAt (a .bytes .now) (a .k .left) (a .k .at)) (a .arena .now) (a .plan .now)
     (a .send .now) _ _ _ _ (a .k .left) (a .counts) (commands-count (a .bytes .now) (a .k .left) (a .k .at))
     (c₁₈ .before .before .before .before .write-plan-head .ensures)

@@ -1,30 +1,87 @@
--- `planning_dry_pass::dry_pass` meets its contract: the table of no words tells of every arena. Assumes nothing.
-use Rattle.key_filter.specs.Laws.{filters-none}
-use borrow.Author.Needs.{needs}
+-- `planning_dry_pass::dry_pass` meets its contract. Assumes nothing.
+use mathlib.Core.Path.{sym, ap, _∙_}
+use Prim.Native.Nat.{ℕ, _-_}
+use native.Mathlib.Omega.{arith}
+use mathlib.Core.Bool.{Bool, _||_}
+use Rattle.cursor.specs.At.{argsEnd}
+use Rattle.cursor.specs.Steps.{one-more}
+use Rattle.cursor.specs.declared.Head.{Head}
+use Rattle.planning_dry_pass.specs.Dry as laws
 use Rattle.planning_dry_pass.proofs.dry_pass.Statement.{statement}
 use Rattle.planning_dry_pass.proofs.dry_pass.Tie as tie
 
-slice-aggregate-dry-each : tie.Need-slice-aggregate-dry-each
-slice-aggregate-dry-each c = search needs
+abbrev Inv-loop : tie.InvT-loop
+Inv-loop bytes arena g when seen at₀ left₀ p₀ q₀ at left p q = laws.Walked g arena bytes (when .clock) (when .epoch) left₀ at₀ p₀ q₀ left at p q
 
-dry-each-requires : tie.Need-dry-each-requires
-dry-each-requires c κs = let p = c .before .before .before .before .pre in (p .0, p .1, record { arena = p .2; filters = filters-none _ _ })
+abbrev μ-loop : tie.MeasureT-loop
+μ-loop bytes arena g when seen at₀ left₀ p₀ q₀ at left p q = left
 
-returns : tie.Need-returns
-returns c = c .dry-each .ensures
+loop-holds : tie.Need-loop-holds Inv-loop μ-loop
+loop-holds c = laws.walked-start _ _ _ _ _ _ _ _ _ (c .before .before .before .pre .0)
 
-dry-filtered-requires : tie.Need-dry-filtered-requires
-dry-filtered-requires c κs = search needs
+head-at-requires : tie.Need-head-at-requires Inv-loop μ-loop
+head-at-requires c κs = laws.planable-room _ _ _ _ _ _ (one-more _ (λ z. omega arith)) (c .before .loop .inv .ahead)
 
-returns-2 : tie.Need-returns-2
-returns-2 c = c .dry-filtered .ensures
+size-by-requires : tie.Need-size-by-requires Inv-loop μ-loop
+size-by-requires c κs = (
+  laws.planable-first _ _ _ _ _ _ (one-more _ (λ z. omega arith)) (c .before .before .loop .inv .ahead) _
+      (c .head-at .ensures),
+  c .before .before .before .before .before .before .pre .1,
+  c .before .before .before .before .before .before .pre .2,
+)
+
+spend-requires : tie.Need-spend-requires Inv-loop μ-loop
+spend-requires c κs = tt
+
+spend-requires-2 : tie.Need-spend-requires-2 Inv-loop μ-loop
+spend-requires-2 c κs = tt
+
+args-end-requires : tie.Need-args-end-requires Inv-loop μ-loop
+args-end-requires c κs =
+    laws.planable-first _ _ _ _ _ _ (one-more _ (λ z. omega arith)) (c .before .before .before .before .before .loop .inv .ahead) _
+    (c .before .before .before .head-at .ensures) .here
+
+sub-left : tie.Need-sub-left Inv-loop μ-loop
+sub-left c = omega arith
+
+loop-less : tie.Need-loop-less Inv-loop μ-loop
+loop-less c = omega arith
+
+loop-again : tie.Need-loop-again Inv-loop μ-loop
+loop-again c =
+    let l : ℕ = c .before .before .before .before .before .before .loop .left in
+    let d = c .before .before .before .before .head-at .ensures in
+    let f = c .args-end .ensures ∙ ap
+    (λ (x : Head). argsEnd (c .before .before .before .before .before .before .before .before .before .before .args .bytes .now) (x .args .left)
+    (x .args .at)) d in
+    rw (c .before .before .spend .ensures, c .before .spend2 .ensures)
+    (laws.walked-next _ _ _ _ _ _ _ _ _ l (l - 1) _ _ _ _ _ _ (one-more l (λ z. omega arith)) d f (c .before .before .before .size-by .ensures)
+    (c .before .before .before .before .before .before .loop .inv))
+
+returns : tie.Need-returns Inv-loop μ-loop
+returns c =
+    λ rows o. c .if1 .taken ∙ ap (λ (b : Bool). b || c .before .before .loop .q .short) (sym (c .if1 .taken))
+    ∙ laws.walked-end _ _ _ _ _ _ _ _ _ _ _ _ _ (omega arith) (c .before .before .loop .inv) rows o
+
+returns-2 : tie.Need-returns-2 Inv-loop μ-loop
+returns-2 c =
+    λ rows o. ap (λ (b : Bool). b || c .before .before .loop .q .short) (sym (c .if1 .left))
+    ∙ laws.walked-end _ _ _ _ _ _ _ _ _ _ _ _ _ (omega arith) (c .before .before .loop .inv) rows o
 
 pub dry-pass-spec : {M : Type 1} → statement M
 dry-pass-spec =
     tie.close
     (tie.spec
-    slice-aggregate-dry-each
-    dry-each-requires
+    Inv-loop
+    μ-loop
+    loop-holds
+    head-at-requires
+    size-by-requires
+    spend-requires
+    spend-requires-2
+    args-end-requires
+    sub-left
+    loop-less
+    loop-again
     returns
-    dry-filtered-requires
     returns-2)
