@@ -211,7 +211,7 @@ fn plan_filtered(
         (holding (now (arena .entry)) (countsOf counts) next) g rows (recordAt (now (bytes .entry)))) (now (arena .exit)) (now (plan .exit))
         (now (send .exit)) r) ⌝ }
 {
-    let mut seen = [0u64; 1024];
+    let mut seen = [0u64; 1536];
     key_filter::fill(arena, g, &mut seen);
     plan_seen(arena, plan, send, bytes, g, when, counts, &seen)
 }

@@ -3,7 +3,7 @@ use mathlib.Core.Path.{_≡_}
 use Prim.Native.Nat.{ℕ, _/_, _%_, _^_}
 use mathlib.Core.Bool.{Bool, true, cond}
 use mathlib.Core.List.{List}
-use lib.Bits.{bitOr}
+use lib.Bits.{bitOr, bitXor}
 use lib.Dec.{eqb, ltb}
 use lib.ListN.{length, getD, set}
 use Rattle.buffer.specs.Same.{Bytes}
@@ -15,7 +15,7 @@ use Rattle.sharded_lru.specs.Lent.{Lent, Arena}
 
 -- the number of a key's bit
 abbrev pub bitOf : Bytes → ℕ
-bitOf k = markedBy k / 65536 % 65536
+bitOf k = bitXor (markedBy k) (markedBy k / 16384) % 98304
 
 -- whether a bit is set in a table of words of 64; one past its end counts as set
 unfoldable pub isSet : List ℕ → ℕ → Bool

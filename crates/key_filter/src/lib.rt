@@ -20,11 +20,13 @@ ghost use Rattle.shard_store.specs.Store.{Storable};
 ghost use Rattle.sharded_lru.specs.Lent.{setupNow, Lent, Arena, effectIn, rowsAfter};
 ghost use Rattle.key_filter.specs.Filter.{bitOf, mayHold, setBit, Grows, Marked, Filters, Filtered};
 
-// The number of the key's bit.
+// The number of the key's bit: of what its mark is made of, its upper and its lower bits together, since keys that differ in a few digits are spread by
+// neither of them alone.
 fn bit_of(key: &[u8]) -> u64
-    ensures { λ r. ⌜ (r ≡ bitOf (now (key .entry))) × (r < 65536) ⌝ }
+    ensures { λ r. ⌜ (r ≡ bitOf (now (key .entry))) × (r < 98304) ⌝ }
 {
-    arena_check::marked_by(key) / 65536 % 65536
+    let m = arena_check::marked_by(key);
+    (m ^ (m / 16384)) % 98304
 }
 
 // Whether an item may have the key.
@@ -103,7 +105,8 @@ pub fn peek(
         → Told (now (arena .entry)) (effectIn (setupNow g) (lookup (now (key .entry)) (keyBytes (now (source .entry)) command) (when .clock) (when .epoch))
         rows) r) ⌝ }
 {
-    if !may_hold(seen, key) {
+    let absent = !may_hold(seen, key);
+    if absent {
         return Looked::Miss(0);
     }
     sharded_lru::peek(arena, g, key, source, command, when)

@@ -118,7 +118,7 @@ fn store_filtered(
     requires { ⌜ Arena g (now arena) × Begins (now plan) (now list) from ⌝ }
     ensures { λ r. ⌜ StorePass g (when .epoch) (now (plan .entry)) (now (list .entry)) from mode (when .clock) (now (arena .entry)) (now (arena .exit)) r ⌝ }
 {
-    let mut seen = [0u64; 1024];
+    let mut seen = [0u64; 1536];
     key_filter::fill(arena, g, &mut seen);
     store_each(arena, g, plan, list, from, mode, when, &mut seen)
 }
