@@ -29,7 +29,7 @@ abbrev pub wanted : Bytes → Bytes → Wanted
 wanted k c = record { key = k; command = c }
 
 abbrev pub storing : Bytes → Bytes → Bytes → ℕ → Storing
-storing k c v x = record { key = k; command = c; value = v; expiry = x }
+storing k c v x = record { wanted = wanted k c; value = v; expiry = x }
 
 -- a planning looks its keys up in turn, and does not stop at a miss
 pub planning-in-turn : said (single (store a get u 10 7) ∷ planning 5 7 (wanted b get ∷ wanted a get ∷ []) (λ xs. false) ∷ [])

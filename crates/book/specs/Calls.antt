@@ -16,10 +16,18 @@ pub record Wanted : Type 0 where
   pub key : Bytes
   pub command : Bytes
 
--- what a resolving stores: key and command key are the plan's, the value the reply's, the expiry is worked out from clock, PTTL and client expiry
+-- what a plan keeps of a wanted key that was not found: its client expiry with it (rule P19)
+pub record Missing : Type 0 where
+  pub wanted : Wanted
+  pub expiry : ℕ
+
+-- a wanted key under its command's client expiry
+abbrev pub missingUntil : ℕ → Wanted → Missing
+missingUntil x w = record { wanted = w; expiry = x }
+
+-- what a resolving stores: the wanted key is the plan's, the value the reply's, the expiry is worked out from clock, PTTL and client expiry
 pub record Storing : Type 0 where
-  pub key : Bytes
-  pub command : Bytes
+  pub wanted : Wanted
   pub value : Bytes
   pub expiry : ℕ
 
@@ -51,7 +59,7 @@ lookups t e (w ∷ ws) = lookup (w .key) (w .command) t e ∷ lookups t e ws
 -- a resolving's stores, under one epoch
 unfoldable pub stores : ℕ → List Storing → List Keyed
 stores e [] = []
-stores e (w ∷ ws) = store (w .key) (w .command) (w .value) (w .expiry) e ∷ stores e ws
+stores e (s ∷ ss) = store (s .wanted .key) (s .wanted .command) (s .value) (s .expiry) e ∷ stores e ss
 
 -- a push's invalidations
 unfoldable pub invalidations : List Bytes → List Keyed

@@ -38,8 +38,8 @@ shardAfter p k c v x e bk = storedRow (p .keys) (find k (bk .rows (p .shardOf k)
 unfoldable pub lacking : Setup → ℕ → List Storing → Book → ℕ
 lacking p e [] bk = 0
 lacking p e (w ∷ ws) bk =
-    let others : ℕ = lacking p e ws (after p (on (store (w .key) (w .command) (w .value) (w .expiry) e)) bk) in
-    cond (fits (p .bytes) (shardAfter p (w .key) (w .command) (w .value) (w .expiry) e bk)) others (1 + others)
+    let others : ℕ = lacking p e ws (after p (on (store (w .wanted .key) (w .wanted .command) (w .value) (w .expiry) e)) bk) in
+    cond (fits (p .bytes) (shardAfter p (w .wanted .key) (w .wanted .command) (w .value) (w .expiry) e bk)) others (1 + others)
 
 -- how many new epochs some calls are
 unfoldable pub epochsIn : List Call → ℕ

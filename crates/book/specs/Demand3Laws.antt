@@ -88,9 +88,9 @@ lacking-is : (p : Setup) (e : ℕ) (ws : List Storing) (bk : Book) → refusals 
 unfolding refusals answers ons stores lacking
 lacking-is p e [] bk = refl
 lacking-is p e (w ∷ ws) bk =
-    byTest (fits (p .bytes) (shardAfter p (w .key) (w .command) (w .value) (w .expiry) e bk))
-    (λ f. rw (f, store-reply p (w .key) (w .command) (w .value) (w .expiry) e bk true f) (lacking-is p e ws _))
-    (λ f. rw (f, store-reply p (w .key) (w .command) (w .value) (w .expiry) e bk false f) (ap (λ (z : ℕ). 1 + z) (lacking-is p e ws _)))
+    byTest (fits (p .bytes) (shardAfter p (w .wanted .key) (w .wanted .command) (w .value) (w .expiry) e bk))
+    (λ f. rw (f, store-reply p (w .wanted .key) (w .wanted .command) (w .value) (w .expiry) e bk true f) (lacking-is p e ws _))
+    (λ f. rw (f, store-reply p (w .wanted .key) (w .wanted .command) (w .value) (w .expiry) e bk false f) (ap (λ (z : ℕ). 1 + z) (lacking-is p e ws _)))
 
 -- events with keys leave the next number
 next-ons : (p : Setup) (qs : List Keyed) (bk : Book) → afterAll p (ons qs) bk .next ≡ bk .next

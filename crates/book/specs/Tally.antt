@@ -94,8 +94,8 @@ module _ (p : Setup) (f : Counts → ℕ) (g : Answer → ℕ) (w : Goes f g) wh
   unfolding answers ons stores tally
   stores-add e [] bk = refl
   stores-add e (s ∷ ws) bk =
-      let a = store-adds (s .key) (s .command) (s .value) (s .expiry) e bk in
-      let b = stores-add e ws (after p (on (store (s .key) (s .command) (s .value) (s .expiry) e)) bk) in omega arith
+      let a = store-adds (s .wanted .key) (s .wanted .command) (s .value) (s .expiry) e bk in
+      let b = stores-add e ws (after p (on (store (s .wanted .key) (s .wanted .command) (s .value) (s .expiry) e)) bk) in omega arith
 
   -- so what remains of a refused call adds nothing
   remaining-adds : (c : Call) (bk : Book) → tally g (answers p (remaining c) bk) ≡ 0

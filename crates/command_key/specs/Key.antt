@@ -1,8 +1,7 @@
 -- The bytes of command keys (rules P8, P9 of docs/BEHAVIOUR.md), gathered from where they stand: nobody builds them up before they are stored.
 -- Nothing is assumed.
-use mathlib.Core.Path.{_≡_, ap}
 use mathlib.Core.Bool.{Bool, true, false}
-use mathlib.Core.List.{List, [], _∷_, _++_, append-nil}
+use mathlib.Core.List.{List, [], _∷_, _++_}
 use Prim.Native.Nat.{_≤_}
 use lib.ListN.{length}
 use Rattle.buffer.specs.Same.{Bytes}
@@ -28,11 +27,6 @@ unfoldable pub keyBytes : Bytes → CommandKey → Bytes
 keyBytes s (Part g) = rangeBytes s g
 keyBytes s (Joined k) = commandKey (argsOf s k)
 keyBytes s (Named json key path) = commandKey (simple (nameBytes json) ∷ (simple (rangeBytes s key) ∷ (simple (rangeBytes s path) ∷ [])))
-
--- a path that is empty adds nothing, so that `GET` has one as well
-pub named-joined : (n k p : Bytes) → commandKey (simple n ∷ (simple k ∷ (simple p ∷ []))) ≡ n ++ (k ++ p)
-unfolding commandKey
-named-joined n k p = ap (λ (z : Bytes). n ++ (k ++ z)) (append-nil p)
 
 -- what it is gathered from lies inside; a name's key and path stand in a call record, which is at most 16 MiB
 unfoldable pub KeyIn : Bytes → CommandKey → Type 0

@@ -1,7 +1,7 @@
 -- By the cases of a command key: what lies inside, and which bytes it stands for. Assumes nothing.
 use mathlib.Core.Path.{_≡_, refl, sym, ap, _∙_}
 use mathlib.Core.Bool.{Bool}
-use mathlib.Core.List.{_++_}
+use mathlib.Core.List.{[], _∷_, _++_, append-nil}
 use Prim.Native.Nat.{_-_, _≤_}
 use native.Mathlib.Omega.{arith}
 use lib.ListN.{length, take, drop}
@@ -9,12 +9,18 @@ use Rattle.buffer.specs.Same.{Bytes}
 use Rattle.buffer.specs.Part.{part}
 use Rattle.buffer.specs.PartLaws.{length-part}
 use Rattle.config.specs.Limits.{maxBytes}
+use Rattle.call_record.specs.Record.{simple}
 use Rattle.cursor.specs.At.{rangeBytes, RangeIn, argsOf, ArgsHere}
 use Rattle.cursor.specs.declared.Args.{Args}
 use Rattle.cursor.specs.declared.Range.{Range}
-use Rattle.command_key.specs.Key.{commandKey, nameBytes, keyBytes, KeyIn, named-joined}
+use Rattle.command_key.specs.Key.{commandKey, nameBytes, keyBytes, KeyIn}
 use Rattle.command_key.specs.declared.CommandKey.{CommandKey}
 use Rattle.command_key.specs.declared.CommandKey.the-variants.{Part, Joined, Named}
+
+-- a path that is empty adds nothing, so that `GET` has one as well
+pub named-joined : (n k p : Bytes) → commandKey (simple n ∷ (simple k ∷ (simple p ∷ []))) ≡ n ++ (k ++ p)
+unfolding commandKey
+named-joined n k p = ap (λ (z : Bytes). n ++ (k ++ z)) (append-nil p)
 
 -- the bytes of a range, as they are cut out, and how many they are
 pub range-length : (s : Bytes) (g : Range) → RangeIn s g → length (rangeBytes s g) ≡ g .end - g .start

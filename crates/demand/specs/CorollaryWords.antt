@@ -14,13 +14,12 @@ use Rattle.call_record.specs.Record as records
 use Rattle.book.specs.Book as book
 use Rattle.book.specs.Book.{Setup, Book, Event, on, invalidateAll, entriesOf, allEntries}
 use Rattle.book.specs.Calls as calls
-use Rattle.book.specs.Calls.{Storing, Call, run}
+use Rattle.book.specs.Calls.{Missing, missingUntil, Storing, Call, run}
 use Rattle.book.specs.Residence.{itemOf, ends}
 use Rattle.book.specs.Demand3.{lacking}
 use Rattle.planning.specs.Ask.{clientExpiry, ask}
 use Rattle.planning.specs.Outcome.{wants}
-use Rattle.plan_outcomes.specs.Outcomes.{missingUntil}
-use Rattle.resolving.specs.Plan.{Missing, Command}
+use Rattle.resolving.specs.Plan.{Command}
 use Rattle.resolving.specs.Resolve.{cause7, answered, takeCommands}
 use Rattle.demand.specs.Call.{RealCall, planning, resolving, push, lookup, store, invalidate, newEpoch, Return, planned, resolved, pushed}
 use Rattle.demand.specs.Call.{lookedUp, stored, invalidated, epochTaken}

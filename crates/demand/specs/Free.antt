@@ -111,8 +111,8 @@ stores-counts : (p : Setup) (e : ℕ) (ss : List Storing) (bk : Book) → Counte
 unfolding ons stores afterAll
 stores-counts p e [] bk w = refl
 stores-counts p e (t ∷ ss) bk w =
-    let same = store-counts p (t .key) (t .command) (t .value) (t .expiry) e bk w in
-    stores-counts p e ss (after p (on (book.store (t .key) (t .command) (t .value) (t .expiry) e)) bk) (subst Counted (sym same) w) ∙ same
+    let same = store-counts p (t .wanted .key) (t .wanted .command) (t .value) (t .expiry) e bk w in
+    stores-counts p e ss (after p (on (book.store (t .wanted .key) (t .wanted .command) (t .value) (t .expiry) e)) bk) (subst Counted (sym same) w) ∙ same
 
 module _ (p : Setup) (bk : Book) (w : Counted (bk .counts)) where
   -- a call of the book that leaves them

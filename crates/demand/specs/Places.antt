@@ -86,16 +86,16 @@ places-split (v ∷ vs) ws [] = ap (λ (z : List Place). waiting v ∷ z) (none-
 places-split (v ∷ vs) ws (a ∷ said) = ap (λ (z : List Place). placeBy a v ∷ z) (places-split vs ws said)
 
 -- all commands
-pub plan-places : (s : Settings) (t : ℕ) (cs : List records.Command) (said : List Answer)
-    → placesIn (nodes.nodes (outcomes (ask s t) cs said)) ≡ map gotOf (places said (wanted (ask s t) cs))
+pub plan-places : (g : Settings) (t : ℕ) (cs : List records.Command) (said : List Answer)
+    → placesIn (nodes.nodes (outcomes (ask g t) cs said)) ≡ map gotOf (places said (wanted (ask g t) cs))
 unfolding nodes.nodes outcomes wanted
-plan-places s t [] said = unfold placesIn places in refl
-plan-places s t (c ∷ cs) said =
-    let ws : List Wanted = wants c (ask s t c) in
-    command-places c (ask s t c) (take (length ws) said) (nodes.nodes (outcomes (ask s t) cs (drop (length ws) said)))
-    ∙ ap (λ (z : List Got). map gotOf (places (take (length ws) said) ws) ++ z) (plan-places s t cs (drop (length ws) said))
-    ∙ sym (map-append gotOf (places (take (length ws) said) ws) (places (drop (length ws) said) (wanted (ask s t) cs)))
-    ∙ ap (map gotOf) (places-split ws (wanted (ask s t) cs) said)
+plan-places g t [] said = unfold placesIn places in refl
+plan-places g t (c ∷ cs) said =
+    let ws : List Wanted = wants c (ask g t c) in
+    command-places c (ask g t c) (take (length ws) said) (nodes.nodes (outcomes (ask g t) cs (drop (length ws) said)))
+    ∙ ap (λ (z : List Got). map gotOf (places (take (length ws) said) ws) ++ z) (plan-places g t cs (drop (length ws) said))
+    ∙ sym (map-append gotOf (places (take (length ws) said) ws) (places (drop (length ws) said) (wanted (ask g t) cs)))
+    ∙ ap (map gotOf) (places-split ws (wanted (ask g t) cs) said)
 
 -- an answer's place shows the answer
 got-place : (a : Answer) (w : Wanted) → gotOf (placeBy a w) ≡ gotBy a

@@ -11,10 +11,11 @@ use Rattle.format.specs.Runs.{All}
 use Rattle.resp3.specs.Value.{Values, more, count, Means, IsValue}
 use Rattle.resp3.specs.Decode as resp
 use Rattle.resp3.specs.Law as values
+use Rattle.book.specs.Calls.{missingUntil}
 use Rattle.planning.specs.Plan as nodes
 use Rattle.planning.specs.Plan.{Node, handOn, servedValue, allServed, missingKey, several, waitingPlace, endOfSeveral}
 use Rattle.planning.specs.Rules.{GoodNode, valuesThen, endThen, placesThen, ordered, GoodPlan}
-use Rattle.resolving_walk.specs.Commands.{missingOf, valueAt, placeAt, valuesAt, placesAt, commandsOf, planRead}
+use Rattle.resolving_walk.specs.Commands.{valueAt, placeAt, valuesAt, placesAt, commandsOf, planRead}
 use Rattle.resolving.specs.Plan.{Place, served, waiting, Command, handedOn, cached, cachedArray, single, multiple, Plan}
 use Rattle.meaning.specs.Nodes.{ValueNodes, noMore, oneMore, PlaceNodes, noPlace, isServed, isWaiting, NodesOf, noCommand, isHandedOn}
 use Rattle.meaning.specs.Nodes.{isCached, isSingle, isArray, isMultiple}
@@ -143,7 +144,7 @@ module _ (f : List Node → Bool) (rest : List Node) where
       record { then = r .then; read = ap₂ (λ z zs. served z ∷ zs) (values.decode-law b v m) (r .read); left = r .left }
   places-back (isWaiting w x ps ns q) =
       let r = places-back q in
-      record { then = r .then; read = ap (λ (zs : List Place). waiting (missingOf w x) ∷ zs) (r .read); left = r .left }
+      record { then = r .then; read = ap (λ (zs : List Place). waiting (missingUntil x w) ∷ zs) (r .read); left = r .left }
 
 -- commands
 record CommandsBack (cs : List Command) (ns : List Node) : Type 0 where
@@ -158,7 +159,7 @@ commands-back (isHandedOn cs ns w) =
 commands-back (isCached b v cs ns m w) =
     let r = commands-back w in record { order = r .order; read = ap₂ (λ z zs. cached z ∷ zs) (values.decode-law b v m) (r .read) }
 commands-back (isSingle u x cs ns w) =
-    let r = commands-back w in record { order = r .order; read = ap (λ (zs : List Command). single (missingOf u x) ∷ zs) (r .read) }
+    let r = commands-back w in record { order = r .order; read = ap (λ (zs : List Command). single (missingUntil x u) ∷ zs) (r .read) }
 commands-back (isArray vs cs rest ns q w) =
     let r = commands-back w in
     let b = values-back (λ l. ordered (length cs) l) rest q in

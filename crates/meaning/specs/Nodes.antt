@@ -6,9 +6,8 @@ use Prim.Native.Nat.{ℕ}
 use lib.ListN.{length}
 use Rattle.buffer.specs.Same.{Bytes}
 use Rattle.resp3.specs.Value.{Value, Values, none, more, count, Means}
-use Rattle.book.specs.Calls.{Wanted}
+use Rattle.book.specs.Calls.{Wanted, missingUntil}
 use Rattle.planning.specs.Plan.{Node, handOn, servedValue, allServed, missingKey, several, waitingPlace, endOfSeveral}
-use Rattle.resolving_walk.specs.Commands.{missingOf}
 use Rattle.resolving.specs.Plan.{Place, served, waiting, Command, handedOn, cached, cachedArray, single, multiple}
 
 -- served values, and then the nodes `rest`
@@ -22,7 +21,7 @@ pub data PlaceNodes (rest : List Node) : List Place → List Node → Type 0 whe
   isServed : (b : Bytes) (v : Value) (ps : List Place) (ns : List Node) → Means b v → PlaceNodes rest ps ns
       → PlaceNodes rest (served v ∷ ps) (servedValue b ∷ ns)
   isWaiting : (w : Wanted) (x : ℕ) (ps : List Place) (ns : List Node) → PlaceNodes rest ps ns
-      → PlaceNodes rest (waiting (missingOf w x) ∷ ps) (waitingPlace w x ∷ ns)
+      → PlaceNodes rest (waiting (missingUntil x w) ∷ ps) (waitingPlace w x ∷ ns)
 
 -- commands
 pub data NodesOf : List Command → List Node → Type 0 where
@@ -30,7 +29,7 @@ pub data NodesOf : List Command → List Node → Type 0 where
   -- handed on; served; one missing key
   isHandedOn : (cs : List Command) (ns : List Node) → NodesOf cs ns → NodesOf (handedOn ∷ cs) (handOn ∷ ns)
   isCached : (b : Bytes) (v : Value) (cs : List Command) (ns : List Node) → Means b v → NodesOf cs ns → NodesOf (cached v ∷ cs) (servedValue b ∷ ns)
-  isSingle : (w : Wanted) (x : ℕ) (cs : List Command) (ns : List Node) → NodesOf cs ns → NodesOf (single (missingOf w x) ∷ cs) (missingKey w x ∷ ns)
+  isSingle : (w : Wanted) (x : ℕ) (cs : List Command) (ns : List Node) → NodesOf cs ns → NodesOf (single (missingUntil x w) ∷ cs) (missingKey w x ∷ ns)
   -- several keys: all served, or not
   isArray : (vs : Values) (cs : List Command) (rest ns : List Node) → ValueNodes rest vs ns → NodesOf cs rest
       → NodesOf (cachedArray vs ∷ cs) (allServed (count vs) ∷ ns)

@@ -14,7 +14,7 @@ use Rattle.resp3.specs.Ends.{isValue}
 use Rattle.arena.specs.Decode.{every}
 use Rattle.book.specs.Calls.{Wanted}
 use Rattle.planning.specs.Plan.{Node, handOn, servedValue, allServed, missingKey, several, waitingPlace, endOfSeveral, Plan, encPlan}
-use Rattle.planning.specs.Plan.{handOnKind, servedKind, allServedKind, missingKind, severalKind, waitingKind, planHeadSize}
+use Rattle.planning.specs.Plan.{handOnKind, servedKind, allServedKind, missingKind, severalKind, waitingKind, planHeadSize, nodeHeadSize}
 use Rattle.planning.specs.Rules.{ordered}
 
 -- ---- reading
@@ -31,12 +31,12 @@ nodeFrom k a b x =
 
 -- "node: kind u32 | length of a u32 | length of b u32 | number u64 | a | b"
 unfoldable pub readNode : Bytes → Node
-readNode s = nodeFrom (read32 s 0) (part s 20 (read32 s 4)) (part s (20 + read32 s 4) (read32 s 8)) (read64 s 12)
+readNode s = nodeFrom (read32 s 0) (part s nodeHeadSize (read32 s 4)) (part s (nodeHeadSize + read32 s 4) (read32 s 8)) (read64 s 12)
 
 -- nodes to the end, at most n
 unfoldable pub readNodes : ℕ → Bytes → List Node
 readNodes zero s = []
-readNodes (suc n) s = let rest = readNodes n (drop (20 + read32 s 4 + read32 s 8) s) in cond (eqb (length s) 0) [] (readNode s ∷ rest)
+readNodes (suc n) s = let rest = readNodes n (drop (nodeHeadSize + read32 s 4 + read32 s 8) s) in cond (eqb (length s) 0) [] (readNode s ∷ rest)
 
 -- "plan: flags u8 | `_` CR LF | count of commands u32 | nodes to the end"
 unfoldable pub readPlan : Bytes → Plan

@@ -21,6 +21,7 @@ use Rattle.resp3.specs.Value.{encode, nullBytes}
 use Rattle.resp3.specs.Law.{value-law}
 use Rattle.arena.specs.Tests.{Trues, every-yes, yes-every}
 use Rattle.planning.specs.Plan.{Node, handOn, servedValue, allServed, missingKey, several, waitingPlace, endOfSeveral, encNode, Plan, encPlan, planHeadSize}
+use Rattle.planning.specs.Plan.{nodeHeadSize}
 use Rattle.planning.specs.Rules.{GoodNode, GoodPlan, IsPlan}
 use Rattle.plan.specs.Head.{headAt}
 use Rattle.plan.specs.Node.{kindOf, firstOf, secondOf, numberOf, node-defs}
@@ -81,9 +82,9 @@ from-parts endOfSeveral = refl
 -- a node before what follows: it is read, and what follows is found
 record NodeRead (nd : Node) (r t : Bytes) : Type 0 where
   some-bytes : eqb (length t) 0 ≡ false
-  shorter : length r + 20 ≤ length t
+  shorter : length r + nodeHeadSize ≤ length t
   is : readNode t ≡ nd
-  rest : drop (20 + read32 t 4 + read32 t 8) t ≡ r
+  rest : drop (nodeHeadSize + read32 t 4 + read32 t 8) t ≡ r
 
 read-one : (nd : Node) (r : Bytes) → GoodNode nd → NodeRead nd r (encNode nd ++ r)
 unfolding headAt headOf readNode
@@ -92,15 +93,15 @@ read-one nd r g =
     let h = node-law t 0 nd r (record { good = g; is = refl }) in
     let k : read32 t 0 ≡ kindOf nd = ap (λ z. z .kind) (h .head) in
     let x : read64 t 12 ≡ numberOf nd = ap (λ z. z .number) (h .head) in
-    let m : 20 + read32 t 4 ≡ 20 + length (firstOf nd) = ap (λ z. z .second) (h .head) in
-    let e : 20 + read32 t 4 + read32 t 8 ≡ 20 + length (firstOf nd) + length (secondOf nd) = h .ends in
+    let m : nodeHeadSize + read32 t 4 ≡ nodeHeadSize + length (firstOf nd) = ap (λ z. z .second) (h .head) in
+    let e : nodeHeadSize + read32 t 4 + read32 t 8 ≡ nodeHeadSize + length (firstOf nd) + length (secondOf nd) = h .ends in
     let a : read32 t 4 ≡ length (firstOf nd) = omega arith in
     let b : read32 t 8 ≡ length (secondOf nd) = omega arith in
-    let l : 20 + length (firstOf nd) + length (secondOf nd) ≤ length t = h .long in
-    let d : length (drop (20 + length (firstOf nd) + length (secondOf nd)) t) ≡ length r = ap length (h .rest) in
+    let l : nodeHeadSize + length (firstOf nd) + length (secondOf nd) ≤ length t = h .long in
+    let d : length (drop (nodeHeadSize + length (firstOf nd) + length (secondOf nd)) t) ≡ length r = ap length (h .rest) in
     record {
       some-bytes = ne-eqb (length t) 0 (λ z. omega arith);
-      shorter = omega (arith, length-drop (20 + length (firstOf nd) + length (secondOf nd)) t);
+      shorter = omega (arith, length-drop (nodeHeadSize + length (firstOf nd) + length (secondOf nd)) t);
       is = rw (k, x, a, b, h .first, h .second) (from-parts nd);
       rest = rw e (h .rest);
     }

@@ -11,7 +11,7 @@ use Rattle.buffer.specs.FieldLaws.{length-le, read-past, read-here, read-agree}
 use Rattle.buffer.specs.Lists.{drop-past}
 use Rattle.buffer.specs.Part.{part}
 use Rattle.buffer.specs.PartLaws.{part-drop}
-use Rattle.planning.specs.Plan.{Node, nodeBytes, encNode}
+use Rattle.planning.specs.Plan.{Node, nodeHeadSize, nodeBytes, encNode}
 use Rattle.planning.specs.Rules.{GoodNode}
 use Rattle.plan.specs.declared.NodeHead.{NodeHead}
 use Rattle.plan.specs.Head.{headAt, endAt, HeadIn}
@@ -43,7 +43,7 @@ module _ (k : ℕ) (a b : Bytes) (x : ℕ) (r : Bytes) where
     pub first : read32 t 4 ≡ length a
     pub second : read32 t 8 ≡ length b
     pub number : read64 t 12 ≡ x
-    pub behind : drop 20 t ≡ a ++ (b ++ r)
+    pub behind : drop nodeHeadSize t ≡ a ++ (b ++ r)
 
   pub fields : FitsNode k a b x → Fields (nodeBytes k a b x ++ r)
   fields f = rw node-then (record { kind = here; first = second-field; second = third-field; number = last-field; behind = all-behind })
@@ -75,7 +75,7 @@ module _ (k : ℕ) (a b : Bytes) (x : ℕ) (r : Bytes) where
           read-past 8 (le32 k) Y₁ 4 8 (length-le 4 k) ∙ read-past 8 (le32 (length a)) Y₂ 4 4 (length-le 4 (length a))
           ∙ read-past 8 (le32 (length b)) Y₃ 4 0 (length-le 4 (length b)) ∙ read-here 8 x Y₄ (f .number)
 
-      all-behind : drop 20 (le32 k ++ Y₁) ≡ Y₄
+      all-behind : drop nodeHeadSize (le32 k ++ Y₁) ≡ Y₄
       all-behind =
           drop-past (le32 k) Y₁ 4 16 (length-le 4 k) ∙ drop-past (le32 (length a)) Y₂ 4 12 (length-le 4 (length a))
           ∙ drop-past (le32 (length b)) Y₃ 4 8 (length-le 4 (length b)) ∙ drop-at (le64 x) Y₄ 8 (length-le 8 x)
@@ -92,9 +92,9 @@ unfoldable pub headOf : ℕ → Node → NodeHead
 headOf at nd =
     record {
       kind = kindOf nd;
-      first = at + 20;
-      second = at + 20 + length (firstOf nd);
-      end = at + 20 + length (firstOf nd) + length (secondOf nd);
+      first = at + nodeHeadSize;
+      second = at + nodeHeadSize + length (firstOf nd);
+      end = at + nodeHeadSize + length (firstOf nd) + length (secondOf nd);
       number = numberOf nd;
     }
 
@@ -102,11 +102,11 @@ headOf at nd =
 pub record Told (s : Bytes) (at : ℕ) (nd : Node) (r : Bytes) : Type 0 where
   pub inside : HeadIn s at
   pub head : headAt s at ≡ headOf at nd
-  pub ends : endAt s at ≡ at + 20 + length (firstOf nd) + length (secondOf nd)
-  pub long : at + 20 + length (firstOf nd) + length (secondOf nd) ≤ length s
-  pub first : part s (at + 20) (length (firstOf nd)) ≡ firstOf nd
-  pub second : part s (at + 20 + length (firstOf nd)) (length (secondOf nd)) ≡ secondOf nd
-  pub rest : drop (at + 20 + length (firstOf nd) + length (secondOf nd)) s ≡ r
+  pub ends : endAt s at ≡ at + nodeHeadSize + length (firstOf nd) + length (secondOf nd)
+  pub long : at + nodeHeadSize + length (firstOf nd) + length (secondOf nd) ≤ length s
+  pub first : part s (at + nodeHeadSize) (length (firstOf nd)) ≡ firstOf nd
+  pub second : part s (at + nodeHeadSize + length (firstOf nd)) (length (secondOf nd)) ≡ secondOf nd
+  pub rest : drop (at + nodeHeadSize + length (firstOf nd) + length (secondOf nd)) s ≡ r
 
 module _ (s : Bytes) (at : ℕ) (k : ℕ) (a b : Bytes) (x : ℕ) (r : Bytes) (f : FitsNode k a b x) (is : drop at s ≡ nodeBytes k a b x ++ r) where
   -- the fields that stand there
@@ -126,28 +126,28 @@ module _ (s : Bytes) (at : ℕ) (k : ℕ) (a b : Bytes) (x : ℕ) (r : Bytes) (f
   number-there = read-drop 8 s at 12 ∙ there .number
 
   -- the parts, from their place on
-  parts-there : drop (at + 20) s ≡ a ++ (b ++ r)
-  parts-there = sym (drop-drop 20 at s) ∙ there .behind
+  parts-there : drop (at + nodeHeadSize) s ≡ a ++ (b ++ r)
+  parts-there = sym (drop-drop nodeHeadSize at s) ∙ there .behind
 
-  pub long-there : at + 20 + length a + length b ≤ length s
+  pub long-there : at + nodeHeadSize + length a + length b ≤ length s
   long-there =
       let e = node-then k a b x r in
-      let l : length (drop at s) ≡ 20 + (length a + (length b + length r)) =
+      let l : length (drop at s) ≡ nodeHeadSize + (length a + (length b + length r)) =
       ap length (is ∙ e)
       ∙ simp (length-append, length-le 4 k, length-le 4 (length a), length-le 4 (length b), length-le 8 x) (omega arith) in
       omega (arith, length-drop at s)
 
-  pub first-part : part s (at + 20) (length a) ≡ a
-  first-part = part-drop s a (b ++ r) (at + 20) (length a) parts-there refl .0
+  pub first-part : part s (at + nodeHeadSize) (length a) ≡ a
+  first-part = part-drop s a (b ++ r) (at + nodeHeadSize) (length a) parts-there refl .0
 
-  second-drop : drop (at + 20 + length a) s ≡ b ++ r
-  second-drop = part-drop s a (b ++ r) (at + 20) (length a) parts-there refl .1
+  second-drop : drop (at + nodeHeadSize + length a) s ≡ b ++ r
+  second-drop = part-drop s a (b ++ r) (at + nodeHeadSize) (length a) parts-there refl .1
 
-  pub second-part : part s (at + 20 + length a) (length b) ≡ b
-  second-part = part-drop s b r (at + 20 + length a) (length b) second-drop refl .0
+  pub second-part : part s (at + nodeHeadSize + length a) (length b) ≡ b
+  second-part = part-drop s b r (at + nodeHeadSize + length a) (length b) second-drop refl .0
 
-  pub rest-there : drop (at + 20 + length a + length b) s ≡ r
-  rest-there = part-drop s b r (at + 20 + length a) (length b) second-drop refl .1
+  pub rest-there : drop (at + nodeHeadSize + length a + length b) s ≡ r
+  rest-there = part-drop s b r (at + nodeHeadSize + length a) (length b) second-drop refl .1
 
 -- a node that was written is read
 pub node-law : (s : Bytes) (at : ℕ) (nd : Node) (r : Bytes) → NodeAt s at nd r → Told s at nd r

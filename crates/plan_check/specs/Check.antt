@@ -11,7 +11,8 @@ use Rattle.buffer.specs.Part.{part}
 use Rattle.config.specs.Limits.{maxCommands, maxArguments, maxKey, maxCommandKey}
 use Rattle.resp3.specs.Value.{nullBytes}
 use Rattle.resp3.specs.Ends.{isValue}
-use Rattle.planning.specs.Plan.{handOnKind, servedKind, allServedKind, missingKind, severalKind, waitingKind, endKind, planHeadSize, nullStart}
+use Rattle.planning.specs.Plan.{handOnKind, servedKind, allServedKind, missingKind, severalKind, waitingKind, endKind, planHeadSize, nodeHeadSize}
+use Rattle.planning.specs.Plan.{nullStart}
 use Rattle.plan.specs.declared.NodeHead.{NodeHead}
 use Rattle.plan.specs.Head.{endAt, headAt}
 use Rattle.plan_check.specs.declared.Walk.{Walk}
@@ -26,7 +27,7 @@ both t u = cond t u false
 
 -- a whole node stands at `at`
 unfoldable pub wholeAt : Bytes → ℕ → Bool
-wholeAt s at = both (leb (at + 20) (length s)) (leb (endAt s at) (length s))
+wholeAt s at = both (leb (at + nodeHeadSize) (length s)) (leb (endAt s at) (length s))
 
 -- a reply handed on, the end of several: no parts, and the number 0
 abbrev pub emptyFine : ℕ → ℕ → ℕ → Bool

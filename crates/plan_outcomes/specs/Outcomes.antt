@@ -6,15 +6,10 @@ use Prim.Native.Nat.{ℕ}
 use Rattle.buffer.specs.Same.{Bytes}
 use Rattle.resp3.specs.Value.{Values, none, more}
 use Rattle.resp3.specs.Decode.{decode}
-use Rattle.book.specs.Calls.{Wanted}
+use Rattle.book.specs.Calls.{Missing, missingUntil}
 use Rattle.planning.specs.Outcome as outcome
 use Rattle.planning.specs.Outcome.{Served, CacheableCommand, CachingResult}
-use Rattle.planning.specs.Gives as gives
-use Rattle.resolving.specs.Plan.{Missing, Place, served, waiting, Command, handedOn, cached, cachedArray, single, multiple, Plan}
-
--- a missing key with its command key, until its client expiry
-unfoldable pub missingUntil : ℕ → Wanted → Missing
-missingUntil x w = record { key = w .key; command = w .command; expiry = x }
+use Rattle.resolving.specs.Plan.{Place, served, waiting, Command, handedOn, cached, cachedArray, single, multiple, Plan}
 
 -- values that are all served
 unfoldable pub valuesGiven : List Bytes → Values
@@ -63,7 +58,3 @@ commandMissing (multiple ps) = placesMissing ps
 unfoldable pub commandsMissing : List Command → List Missing
 commandsMissing [] = []
 commandsMissing (c ∷ cs) = commandMissing c ++ commandsMissing cs
-
--- one of planning's missing keys, as resolving sees it
-unfoldable pub untilGiven : gives.Missing → Missing
-untilGiven m = missingUntil (m .expiry) (m .wanted)

@@ -15,8 +15,8 @@ use Rattle.cursor.specs.declared.Range.{Range}
 use Rattle.cursor.specs.Steps.{in-more, in-start}
 use Rattle.command_key.specs.declared.CommandKey.{CommandKey}
 use Rattle.command_key.specs.declared.CommandKey.the-variants.{Part, Joined, Named}
-use Rattle.command_key.specs.Key.{nameBytes, keyBytes, KeyIn, named-joined}
-use Rattle.command_key.specs.Keys.{range-length}
+use Rattle.command_key.specs.Key.{nameBytes, keyBytes, KeyIn}
+use Rattle.command_key.specs.Keys.{named-joined, range-length}
 use Rattle.command_key.specs.Joined.{joinedAt, joined-none, joined-length}
 use Rattle.planning.specs.Plan.{Plan, nodeBytes, encNode, encPlan, planHeadSize, nodeHeadSize}
 

@@ -1,6 +1,6 @@
 -- How far a command of a call record gets in planning, and which keys it then asks for: rules P1 to P7 of docs/BEHAVIOUR.md, in their order, after
 -- `get_cached_pipeline`. Assumes nothing: these are definitions.
--- Letters: s settings, t clock, c command, n name, k key, x client expiry.
+-- Letters: g settings, t clock, c command, n name, k key, x client expiry.
 use Prim.Native.Nat.{ℕ, _+_, _^_}
 use mathlib.Core.Bool.{Bool, true, false, cond, _||_}
 use mathlib.Core.List.{List, [], _∷_}
@@ -46,7 +46,7 @@ reach m c = cond (ignored c) skipped (cond (takesPart m c) (reachBy (c .args)) s
 -- out to be
 
 unfoldable pub clientExpiry : Settings → ℕ → Command → ℕ
-clientExpiry s t c = t + cond (hasTtl c) (c .ttl) (s .ttl)
+clientExpiry g t c = t + cond (hasTtl c) (c .ttl) (g .ttl)
 
 -- cause 4 (C4): the client expiry needs more than 64 bits; only a command that got as far as its name has one
 unfoldable pub pastEnd : Reach → ℕ → Bool
@@ -56,8 +56,8 @@ pastEnd (named n) x = leb (2 ^ 64) x
 
 -- of any command
 unfoldable pub anyLate : Settings → ℕ → List Command → Bool
-anyLate s t [] = false
-anyLate s t (c ∷ cs) = pastEnd (reach (s .mode) c) (clientExpiry s t c) || anyLate s t cs
+anyLate g t [] = false
+anyLate g t (c ∷ cs) = pastEnd (reach (g .mode) c) (clientExpiry g t c) || anyLate g t cs
 
 -- ---- Keys
 
@@ -116,7 +116,7 @@ askFrom stopped l x = uncacheable
 askFrom (named n) l x = askBy (multiKey n) n l x
 
 unfoldable pub ask : Settings → ℕ → Command → Ask
-ask s t c = askFrom (reach (s .mode) c) (c .args) (clientExpiry s t c)
+ask g t c = askFrom (reach (g .mode) c) (c .args) (clientExpiry g t c)
 
 -- one name that opens every definition of this page, for cases that compute
 unfoldable pub ask-defs : Unit {0}

@@ -23,7 +23,7 @@ use Rattle.book.specs.Book.{Answer, hit, miss, stored, noSpace, invalidated, nu
 use Rattle.book.specs.Calls.{Wanted}
 use borrow.Author.Tests.{leb-false}
 use Rattle.planning.specs.Ask.{Reach, skipped, stopped, named, pastEnd, reach, clientExpiry, anyLate, afterName, butLast, lastOnly}
-use Rattle.planning.specs.Ask.{askOne, askBy, askFrom, severalKeys, ask}
+use Rattle.planning.specs.Ask.{askOne, askBy, askFrom, Ask, severalKeys, ask}
 use Rattle.planning.specs.Outcome.{Place, filled, waiting, item, asSimple, wholeKey, partKeys, wants, placeBy, place, places, servedValues}
 use Rattle.planning.specs.Outcome.{singleItem, multipleItem, missing, outcome, outcomes}
 use Rattle.planning.specs.Plan.{endOfSeveral, valueNodes, placeNodes, servedNodes, missingNodes, nodesOf, nodes, planOf}
@@ -194,55 +194,55 @@ reached-nodes c said x (named n) e h v b =
     named-nodes c said h x (leb-false (2 ^ 64) x e) (multiKey n) n (v .args) (v .count) (key-fits c b)
 
 -- of any command
-asked-nodes : (s : Settings) (t : ℕ) (c : Command) (said : List Answer) → pastEnd (reach (s .mode) c) (clientExpiry s t c) ≡ false → All GoodAnswer said
-    → ValidCommand c → length (encCommand c) ≤ maxBytes → All GoodNode (nodesOf (outcome c (ask s t c) said))
+asked-nodes : (g : Settings) (t : ℕ) (c : Command) (said : List Answer) → pastEnd (reach (g .mode) c) (clientExpiry g t c) ≡ false → All GoodAnswer said
+    → ValidCommand c → length (encCommand c) ≤ maxBytes → All GoodNode (nodesOf (outcome c (ask g t c) said))
 unfolding ask
-asked-nodes s t c said e h v b = reached-nodes c said (clientExpiry s t c) (reach (s .mode) c) e h v b
+asked-nodes g t c said e h v b = reached-nodes c said (clientExpiry g t c) (reach (g .mode) c) e h v b
 
 -- ---- the nodes of all commands
 
 -- each command takes the answers of its own lookups
-all-nodes : (s : Settings) (t : ℕ) (cs : List Command) (said : List Answer) → All ValidCommand cs → length (encAll encCommand cs) ≤ maxBytes
-    → anyLate s t cs ≡ false → All GoodAnswer said → All GoodNode (nodes (outcomes (ask s t) cs said))
+all-nodes : (g : Settings) (t : ℕ) (cs : List Command) (said : List Answer) → All ValidCommand cs → length (encAll encCommand cs) ≤ maxBytes
+    → anyLate g t cs ≡ false → All GoodAnswer said → All GoodNode (nodes (outcomes (ask g t) cs said))
 unfolding outcomes nodes anyLate
-all-nodes s t [] said v b e h = tt
-all-nodes s t (c ∷ cs) said v b e h =
-    let own = length (wants c (ask s t c)) in
+all-nodes g t [] said v b e h = tt
+all-nodes g t (c ∷ cs) said v b e h =
+    let own = length (wants c (ask g t c)) in
     let j = length-append (encCommand c) (encAll encCommand cs) in
-    let o = neither (pastEnd (reach (s .mode) c) (clientExpiry s t c)) (anyLate s t cs) e in
-    append-all GoodNode (nodesOf (outcome c (ask s t c) (take own said))) (nodes (outcomes (ask s t) cs (drop own said)))
-    (asked-nodes s t c (take own said) (o .0) (take-all GoodAnswer own said h) (v .0) (omega arith))
-    (all-nodes s t cs (drop own said) (v .1) (omega arith) (o .1) (drop-all GoodAnswer own said h))
+    let o = neither (pastEnd (reach (g .mode) c) (clientExpiry g t c)) (anyLate g t cs) e in
+    append-all GoodNode (nodesOf (outcome c (ask g t c) (take own said))) (nodes (outcomes (ask g t) cs (drop own said)))
+    (asked-nodes g t c (take own said) (o .0) (take-all GoodAnswer own said h) (v .0) (omega arith))
+    (all-nodes g t cs (drop own said) (v .1) (omega arith) (o .1) (drop-all GoodAnswer own said h))
 
 -- as many outcomes as commands
-outcomes-count : (s : Settings) (t : ℕ) (cs : List Command) (said : List Answer) → length (outcomes (ask s t) cs said) ≡ length cs
+pub outcomes-count : (asks : Command → Ask) (cs : List Command) (said : List Answer) → length (outcomes asks cs said) ≡ length cs
 unfolding outcomes
-outcomes-count s t [] said = refl
-outcomes-count s t (c ∷ cs) said =
-    let i = outcomes-count s t cs (drop (length (wants c (ask s t c))) said) in omega arith
+outcomes-count asks [] said = refl
+outcomes-count asks (c ∷ cs) said =
+    let i = outcomes-count asks cs (drop (length (wants c (asks c))) said) in omega arith
 
 -- of a valid record of at most 16 MiB, of which no client expiry is past 64 bits, on a cache that holds values, planning's plan is a good one
-pub good-plan : (s : Settings) (t : ℕ) (r : Record) (said : List Answer) → ValidRecord r → length (encRecord r) ≤ maxBytes → anyLate s t (r .commands) ≡ false
-    → All GoodAnswer said → GoodPlan (planOf (transaction r) (outcomes (ask s t) (r .commands) said))
+pub good-plan : (g : Settings) (t : ℕ) (r : Record) (said : List Answer) → ValidRecord r → length (encRecord r) ≤ maxBytes → anyLate g t (r .commands) ≡ false
+    → All GoodAnswer said → GoodPlan (planOf (transaction r) (outcomes (ask g t) (r .commands) said))
 unfolding planOf encRecord
-good-plan s t r said v b e h =
-    let n = outcomes-count s t (r .commands) said in
+good-plan g t r said v b e h =
+    let n = outcomes-count (ask g t) (r .commands) said in
     let k = v .count in
     let j = length-append (le16 (length (r .commands))) (encAll encCommand (r .commands)) in
     let i = length-append (le16 1) (r .flags ∷ (le16 (length (r .commands)) ++ encAll encCommand (r .commands))) in
     record {
       count = omega arith;
-      each = all-nodes s t (r .commands) said (v .commands) (omega arith) e h;
-      order = in-order (outcomes (ask s t) (r .commands) said);
+      each = all-nodes g t (r .commands) said (v .commands) (omega arith) e h;
+      order = in-order (outcomes (ask g t) (r .commands) said);
     }
 
 -- so what it writes is a plan
-pub keeps-rules : (s : Settings) (t : ℕ) (r : Record) (said : List Answer) → ValidRecord r → length (encRecord r) ≤ maxBytes → anyLate s t (r .commands) ≡ false
-    → All GoodAnswer said → IsPlan (plannedFrom (ask s t) s r said .plan)
+pub keeps-rules : (g : Settings) (t : ℕ) (r : Record) (said : List Answer) → ValidRecord r → length (encRecord r) ≤ maxBytes → anyLate g t (r .commands) ≡ false
+    → All GoodAnswer said → IsPlan (plannedFrom (ask g t) g r said .plan)
 unfolding plannedFrom plannedBy
-keeps-rules s t r said v b e h = record {
+keeps-rules g t r said v b e h = record {
   plan = planOf (transaction r)
-      (outcomes (ask s t) (r .commands) said);
-  good = good-plan s t r said v b e h;
+      (outcomes (ask g t) (r .commands) said);
+  good = good-plan g t r said v b e h;
   is = refl;
 }

@@ -1,6 +1,6 @@
 -- The outcome of each command, from the answers to its lookups; and the lookups: rules P8 to P12 of docs/BEHAVIOUR.md, after `get_cached_pipeline`.
 -- Assumes nothing: these are definitions.
--- Letters: s settings, t clock, c command, n name, k key, w a key with its command key, x client expiry, v value.
+-- Letters: c command, n name, k key, w a key with its command key, x client expiry, v value.
 use Prim.Native.Nat.{ℕ}
 use mathlib.Core.List.{List, [], _∷_, _++_}
 use lib.ListN.{length, take, drop}

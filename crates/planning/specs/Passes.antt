@@ -50,34 +50,34 @@ module _ (p : Setup) (bk : Book) (asks : Command → Ask) (t e : ℕ) where
       ap (drop (length ws)) (dry-append ws vs) ∙ drop-at (dry p bk t e ws) (dry p bk t e vs) (length ws) l in
       ap₂ _∷_ (ap (outcome c (asks c)) a) (ap (outcomes asks cs) b ∙ each-alone cs)
 
-module _ (p : Setup) (bk : Book) (s : Settings) (t e : ℕ) where
+module _ (p : Setup) (bk : Book) (g : Settings) (t e : ℕ) where
   module _ (r : Record) (planRoom sendRoom : ℕ) where
     -- the answers to this planning's lookups, on the book before it
     abbrev said : List Answer
-    said = dry p bk t e (wanted (ask s t) (r .commands))
+    said = dry p bk t e (wanted (ask g t) (r .commands))
 
     -- what planning answers and what the book does, by what is tested: cause 4 first, then 5
     pub record Does (a : PlanAnswer) (after : Book) : Type 0 where
-      pub answers : planOn p bk s t e r planRoom sendRoom ≡ a
-      pub leaves : afterCall p (callOf s t e r planRoom sendRoom) bk ≡ after
+      pub answers : planOn p bk g t e r planRoom sendRoom ≡ a
+      pub leaves : afterCall p (callOf g t e r planRoom sendRoom) bk ≡ after
 
     -- cause 4
-    pub refused-4 : anyLate s t (r .commands) ≡ true → Does (because 4) bk
+    pub refused-4 : anyLate g t (r .commands) ≡ true → Does (because 4) bk
     unfolding planOn planAnswer callOf call-defs afterAll
     refused-4 l = record { answers = rw l; leaves = rw l }
 
     -- cause 5
-    pub refused-5 : anyLate s t (r .commands) ≡ false → short (ask s t) s r planRoom sendRoom said ≡ true → Does (because 5) bk
+    pub refused-5 : anyLate g t (r .commands) ≡ false → short (ask g t) g r planRoom sendRoom said ≡ true → Does (because 5) bk
     unfolding planOn planAnswer callOf call-defs afterAll
     refused-5 l h = record { answers = rw (planned, l, h); leaves = rw (l, planned, h) }
 
     -- all is written, and the lookups are done in their order
-    pub plans : anyLate s t (r .commands) ≡ false → short (ask s t) s r planRoom sendRoom said ≡ false
-        → Does (done (plannedBy s r (outcomesOn p bk (ask s t) t e (r .commands)))) (afterAll p (ons (lookups t e (wanted (ask s t) (r .commands)))) bk)
+    pub plans : anyLate g t (r .commands) ≡ false → short (ask g t) g r planRoom sendRoom said ≡ false
+        → Does (done (plannedBy g r (outcomesOn p bk (ask g t) t e (r .commands)))) (afterAll p (ons (lookups t e (wanted (ask g t) (r .commands)))) bk)
     unfolding planOn planAnswer callOf call-defs plannedFrom
     plans l h =
         record {
-          answers = rw (planned, l, h) (ap (λ (rs : List CachingResult). done (plannedBy s r rs)) (each-alone p bk (ask s t) t e (r .commands)));
+          answers = rw (planned, l, h) (ap (λ (rs : List CachingResult). done (plannedBy g r rs)) (each-alone p bk (ask g t) t e (r .commands)));
           leaves = rw
               (l, planned, h);
         }

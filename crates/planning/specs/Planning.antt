@@ -1,6 +1,6 @@
 -- The whole of planning on a call record that is one: its lookups, what it writes and answers, and the call that the book is fed. Assumes nothing: these
 -- are definitions.
--- Letters: s settings, t clock, e epoch, r call record.
+-- Letters: g settings, t clock, e epoch, r call record.
 use Prim.Native.Nat.{ℕ}
 use mathlib.Core.Bool.{Bool, cond, _||_}
 use mathlib.Core.List.{List}
@@ -25,26 +25,26 @@ pub record Planned : Type 0 where
 
 -- by the outcomes of its commands
 unfoldable pub plannedBy : Settings → Record → List CachingResult → Planned
-plannedBy s r rs =
+plannedBy g r rs =
     record {
       plan = encPlan (planOf (transaction r) rs);
-      send = sentBytes (wrapped (transaction r) (sent (s .mode) (r .commands) rs));
-      counts = responses (transaction r) (length (sent (s .mode) (r .commands) rs));
+      send = sentBytes (wrapped (transaction r) (sent (g .mode) (r .commands) rs));
+      counts = responses (transaction r) (length (sent (g .mode) (r .commands) rs));
     }
 
 -- by the answers to its lookups
 unfoldable pub plannedFrom : (Command → Ask) → Settings → Record → List Answer → Planned
-plannedFrom asks s r said = plannedBy s r (outcomes asks (r .commands) said)
+plannedFrom asks g r said = plannedBy g r (outcomes asks (r .commands) said)
 
 -- cause 5 (rules P20, C5): what is to be written into one of the two buffers is longer than the buffer
 unfoldable pub short : (Command → Ask) → Settings → Record → ℕ → ℕ → List Answer → Bool
-short asks s r planRoom sendRoom said =
-    ltb planRoom (length (plannedFrom asks s r said .plan)) || ltb sendRoom (length (plannedFrom asks s r said .send))
+short asks g r planRoom sendRoom said =
+    ltb planRoom (length (plannedFrom asks g r said .plan)) || ltb sendRoom (length (plannedFrom asks g r said .send))
 
 -- the call that the book is told of (rule B14): its lookups; cause 4 refuses it whatever they would answer
 unfoldable pub callOf : Settings → ℕ → ℕ → Record → ℕ → ℕ → Call
-callOf s t e r planRoom sendRoom =
-    cond (anyLate s t (r .commands)) refused (planning t e (wanted (ask s t) (r .commands)) (short (ask s t) s r planRoom sendRoom))
+callOf g t e r planRoom sendRoom =
+    cond (anyLate g t (r .commands)) refused (planning t e (wanted (ask g t) (r .commands)) (short (ask g t) g r planRoom sendRoom))
 
 -- a cause's number, or what is written
 pub data PlanAnswer : Type 0 where
@@ -53,14 +53,14 @@ pub data PlanAnswer : Type 0 where
 
 -- what planning answers, by what its lookups answer: cause 4 comes before cause 5 (rule C12)
 unfoldable pub planAnswer : Settings → ℕ → Record → ℕ → ℕ → List Answer → PlanAnswer
-planAnswer s t r planRoom sendRoom said =
-    cond (anyLate s t (r .commands)) (because lateExpiry)
-    (cond (short (ask s t) s r planRoom sendRoom said) (because shortBuffer) (done (plannedFrom (ask s t) s r said)))
+planAnswer g t r planRoom sendRoom said =
+    cond (anyLate g t (r .commands)) (because lateExpiry)
+    (cond (short (ask g t) g r planRoom sendRoom said) (because shortBuffer) (done (plannedFrom (ask g t) g r said)))
 
 -- on a book
 unfoldable pub planOn : Setup → Book → Settings → ℕ → ℕ → Record → ℕ → ℕ → PlanAnswer
-planOn p bk s t e r planRoom sendRoom =
-    planAnswer s t r planRoom sendRoom (answers p (ons (lookups t e (wanted (ask s t) (r .commands)))) bk)
+planOn p bk g t e r planRoom sendRoom =
+    planAnswer g t r planRoom sendRoom (answers p (ons (lookups t e (wanted (ask g t) (r .commands)))) bk)
 
 -- one name that opens every definition of this page, for cases that compute
 unfoldable pub planning-defs : Unit {0}

@@ -51,14 +51,14 @@ pub record SentRun (x : Planned) : Type 0 where
   pub read : Got (x .send) [] (commandValues commands) (itemsEnd maxDepth (x .send) (length commands) 0) (valuesOf maxDepth (x .send) (length commands) 0)
 
 -- so it is, whatever the outcomes
-pub sent-run : (s : Settings) (r : Record) (rs : List CachingResult) → SentRun (plannedBy s r rs)
+pub sent-run : (g : Settings) (r : Record) (rs : List CachingResult) → SentRun (plannedBy g r rs)
 unfolding plannedBy
-sent-run s r rs =
-    let ps = wrapped (transaction r) (sent (s .mode) (r .commands) rs) in
+sent-run g r rs =
+    let ps = wrapped (transaction r) (sent (g .mode) (r .commands) rs) in
     record {
       commands = ps;
       is = refl;
-      number = wrapped-count (transaction r) (sent (s .mode) (r .commands) rs);
+      number = wrapped-count (transaction r) (sent (g .mode) (r .commands) rs);
       valid = commands-valid ps;
       read = read-back ps;
     }

@@ -14,6 +14,7 @@ use Rattle.cursor.specs.At.{rangeBytes, commandOf}
 use Rattle.cursor.specs.declared.Head.{Head}
 use Rattle.cursor.specs.declared.Range.{Range}
 use Rattle.command_key.specs.Key as key
+use Rattle.command_key.specs.Keys.{named-joined}
 use Rattle.command_key.specs.declared.CommandKey.the-variants.{Joined, Named}
 use Rattle.planning.specs.Outcome.{wholeKey, partKey}
 use Rattle.planning_ask.specs.Asked.{severalName, pathIn, SeveralIn}
@@ -57,4 +58,4 @@ pub part-key : (s : Bytes) (v : Several) (k : Range) → SeveralIn s v
 unfolding partKey key.keyBytes key.commandKey
 part-key s v k w =
     ap₂ (λ (x : Bytes) (y : Bytes). x ++ (rangeBytes s k ++ y)) (single-name (v .json)) (w .joins)
-    ∙ sym (key.named-joined (key.nameBytes (v .json)) (rangeBytes s k) (rangeBytes s (v .path)))
+    ∙ sym (named-joined (key.nameBytes (v .json)) (rangeBytes s k) (rangeBytes s (v .path)))

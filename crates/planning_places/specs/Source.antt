@@ -20,7 +20,7 @@ use Rattle.cmd.specs.Pack.{packed, blob, pttlTexts}
 use Rattle.cmd.specs.Laws.{Wrote}
 use Rattle.planning.specs.Outcome.{Place, filled, waiting, missing}
 use Rattle.planning.specs.Sent.{keysOf}
-use Rattle.planning.specs.Plan.{placeNodes, nodeBytes, encNode, servedKind, waitingKind}
+use Rattle.planning.specs.Plan.{placeNodes, nodeBytes, encNode, nodeHeadSize, servedKind, waitingKind}
 use Rattle.plan.specs.Head.{endAt, headAt, HeadIn}
 use Rattle.plan.specs.Node.{FitsNode}
 use Rattle.plan.specs.There.{kind-there, first-there, second-there, first-part, long-there, rest-there}
@@ -39,7 +39,7 @@ use Rattle.planning_places.specs.declared.PlaceAt.{PlaceAt}
 -- the keys of the nodes that are not a served value's
 unfoldable pub nodeKeys : Bytes → ℕ → ℕ → List Bytes
 nodeKeys s zero at = []
-nodeKeys s (suc n) at = let rest = nodeKeys s n (endAt s at) in cond (eqb (read32 s at) servedKind) rest (part s (at + 20) (read32 s (at + 4)) ∷ rest)
+nodeKeys s (suc n) at = let rest = nodeKeys s n (endAt s at) in cond (eqb (read32 s at) servedKind) rest (part s (at + nodeHeadSize) (read32 s (at + 4)) ∷ rest)
 
 -- so many nodes stand there, whole
 unfoldable pub NodesIn : Bytes → ℕ → ℕ → Type 0

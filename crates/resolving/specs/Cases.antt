@@ -9,8 +9,8 @@ use Rattle.config.specs.declared.CacheMode.the-variants.{All, OptIn}
 use Rattle.decimal.specs.Digits.{digits}
 use Rattle.buffer.specs.Ascii.{ascii}
 use Rattle.resp3.specs.Value.{Value, Values, blobString, simpleString, simpleError, number, null, blobError, array, set, attribute, none, more, nil, encode}
-use Rattle.book.specs.Calls.{Storing, resolving, resolving7}
-use Rattle.resolving.specs.Plan.{Missing, served, waiting, Command, handedOn, cached, cachedArray, single, multiple, Plan}
+use Rattle.book.specs.Calls.{Wanted, Missing, Storing, resolving, resolving7}
+use Rattle.resolving.specs.Plan.{served, waiting, Command, handedOn, cached, cachedArray, single, multiple, Plan}
 use Rattle.resolving.specs.Resolve.{fill, cause7, answered, resolve}
 use Rattle.resolving.specs.Result.{resultBytes, callOf}
 
@@ -47,13 +47,17 @@ error = simpleError (ascii "ERR")
 abbrev pub marked : Value → Value
 marked v = attribute nil v
 
+-- a key under the command key `GET`
+abbrev pub wanted : String → Wanted
+wanted key = record { key = ascii key; command = ascii "GET" }
+
 -- a missing key with client expiry 500
 abbrev pub missing : String → Missing
-missing key = record { key = ascii key; command = ascii "GET"; expiry = 500 }
+missing key = record { wanted = wanted key; expiry = 500 }
 
 -- the store of a key
 abbrev pub stored : String → Value → ℕ → Storing
-stored key v x = record { key = ascii key; command = ascii "GET"; value = encode v; expiry = x }
+stored key v x = record { wanted = wanted key; value = encode v; expiry = x }
 
 -- commands one by one
 abbrev pub plan : List Command → Plan
@@ -94,7 +98,7 @@ unfolding resolve
 pttl-no-integer = refl
 
 -- a sum past 64 bits counts as the larger: the largest clock and the smallest PTTL above 0, the largest client expiry
-pub pttl-past-64 : resolve (plan (single (record { key = ascii "a"; command = ascii "GET"; expiry = 2 ^ 64 - 1 }) ∷ [])) All (2 ^ 64 - 1)
+pub pttl-past-64 : resolve (plan (single (record { wanted = wanted "a"; expiry = 2 ^ 64 - 1 }) ∷ [])) All (2 ^ 64 - 1)
     (list (int 1 ∷ text "u" ∷ []))
     ≡ answered (row (text "u" ∷ [])) (stored "a" (text "u") (2 ^ 64 - 1) ∷ [])
 unfolding resolve

@@ -9,8 +9,8 @@ use Rattle.config.specs.Limits.{maxKey, maxCommandKey, maxBytes, maxDepth}
 use Rattle.config.specs.declared.CacheMode.{CacheMode}
 use Rattle.resp3.specs.Value.{Value, Values, array, none, more, depth, deepest, Valid, Valids, encs, encode, IsValue}
 use Rattle.resp3.specs.Rows.{enc-is}
-use Rattle.book.specs.Calls.{Storing}
-use Rattle.resolving.specs.Plan.{Missing, Plan}
+use Rattle.book.specs.Calls.{Missing, Storing}
+use Rattle.resolving.specs.Plan.{Plan}
 use Rattle.resolving.specs.Resolve.{Resolved, cause7, answered, resolve}
 use Rattle.resolving.specs.Result.{resultOf}
 use Rattle.resolving.specs.Made.{Every, CommandsHave, Made, AllMade, ResolvedHas, Closed, resolved-has}
@@ -23,8 +23,8 @@ pub record Sent (v : Value) : Type 0 where
 
 -- what a missing key of a plan is, by docs/LAYOUT.md's rules
 pub record Asked (m : Missing) : Type 0 where
-  pub key : length (m .key) ≤ maxKey
-  pub command : length (m .command) ≤ maxCommandKey
+  pub key : length (m .wanted .key) ≤ maxKey
+  pub command : length (m .wanted .command) ≤ maxCommandKey
   pub expiry : m .expiry < 2 ^ 64
 
 -- a plan whose missing keys are within the limits and whose served values are RESP3 values
@@ -33,8 +33,8 @@ Within p = CommandsHave Sent Asked Valid (p .commands)
 
 -- what may be stored
 pub record Storable (s : Storing) : Type 0 where
-  pub key : length (s .key) ≤ maxKey
-  pub command : length (s .command) ≤ maxCommandKey
+  pub key : length (s .wanted .key) ≤ maxKey
+  pub command : length (s .wanted .command) ≤ maxCommandKey
   pub value : IsValue (s .value)
   pub expiry : s .expiry < 2 ^ 64
 
@@ -82,8 +82,8 @@ limits-closed =
 made-storable : (s : Storing) → Made Sent Asked Valid s → Storable s
 made-storable s h =
     record {
-      key = rw (h .key) (h .asked .key);
-      command = rw (h .command) (h .asked .command);
+      key = rw (h .wanted) (h .asked .key);
+      command = rw (h .wanted) (h .asked .command);
       value = record { small = rw (h .value) (h .given .small); v = h .reply; means = record { ok = h .given .ok; deep = h .given .deep; is = h .value } };
       expiry = let a = h .asked .expiry in let b = h .expiry in omega arith;
     }

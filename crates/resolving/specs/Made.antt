@@ -13,8 +13,8 @@ use Rattle.config.specs.declared.CacheMode.the-variants.{All, OptIn}
 use Rattle.resp3.specs.Value.{Value, Values, blobString, simpleString, simpleError, number, null, double, boolean, blobError, verbatimString}
 use Rattle.resp3.specs.Value.{bigNumber, array, map, set, attribute, push, none, more, encode}
 use Rattle.resp3_element.specs.Meaning.{isError, integerOf, arrayOf}
-use Rattle.book.specs.Calls.{Storing}
-use Rattle.resolving.specs.Plan.{Missing, Place, served, waiting, Command, handedOn, cached, cachedArray, single, multiple, Plan}
+use Rattle.book.specs.Calls.{Missing, Storing}
+use Rattle.resolving.specs.Plan.{Place, served, waiting, Command, handedOn, cached, cachedArray, single, multiple, Plan}
 use Rattle.resolving.specs.Convert.{onlyList, thenOnlyList, repliesOf}
 use Rattle.resolving.specs.Store.{storeOf}
 use Rattle.resolving.specs.Resolve.{Outcome, wrong, gives, takeReply, optIn, takeSingle, Filled, placed, eaten, fill, fillFrom, takeMultiple}
@@ -49,14 +49,13 @@ module _ (P : Value → Type 0) (Q : Missing → Type 0) (R : Value → Type 0) 
   CommandsHave [] = Unit {0}
   CommandsHave (c ∷ cs) = CommandHas c × CommandsHave cs
 
-  -- a store's key and command key are a missing key's, its value a reply's bytes, and its expiry is not later than the client's
+  -- a store's key, with its command key, is a missing key's, its value a reply's bytes, and its expiry is not later than the client's
   pub record Made (s : Storing) : Type 0 where
     pub missing : Missing
     pub asked : Q missing
     pub reply : Value
     pub given : P reply
-    pub key : s .key ≡ missing .key
-    pub command : s .command ≡ missing .command
+    pub wanted : s .wanted ≡ missing .wanted
     pub value : s .value ≡ encode reply
     pub expiry : s .expiry ≤ missing .expiry
 
@@ -94,8 +93,7 @@ module _ (P : Value → Type 0) (Q : Missing → Type 0) (R : Value → Type 0) 
           asked = q;
           reply = v;
           given = g;
-          key = refl;
-          command = refl;
+          wanted = refl;
           value = refl;
           expiry = not-later clock (m .expiry)
               (integerOf pttl);

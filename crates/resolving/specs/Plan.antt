@@ -2,15 +2,8 @@
 -- How a plan is written in bytes is docs/LAYOUT.md's matter; that the bytes lent are such a plan is cause 10's.
 use mathlib.Core.Bool.{Bool}
 use mathlib.Core.List.{List}
-use Prim.Native.Nat.{ℕ}
-use Rattle.buffer.specs.Same.{Bytes}
 use Rattle.resp3.specs.Value.{Value, Values}
-
--- what the plan keeps of a missing key (rule P19), for its store
-pub record Missing : Type 0 where
-  pub key : Bytes
-  pub command : Bytes
-  pub expiry : ℕ
+use Rattle.book.specs.Calls.{Missing}
 
 -- a place in the answer of a several-key command: a served value, or a key that waits for one
 pub data Place : Type 0 where

@@ -8,8 +8,8 @@ use Rattle.config.specs.declared.CacheMode.{CacheMode}
 use Rattle.config.specs.declared.CacheMode.the-variants.{All, OptIn}
 use Rattle.resp3.specs.Value.{Value, Values, null, array, none, more}
 use Rattle.resp3_element.specs.Meaning.{arrayOf}
-use Rattle.book.specs.Calls.{Storing}
-use Rattle.resolving.specs.Plan.{Missing, Place, served, waiting, Command, handedOn, cached, cachedArray, single, multiple, Plan}
+use Rattle.book.specs.Calls.{Missing, Storing}
+use Rattle.resolving.specs.Plan.{Place, served, waiting, Command, handedOn, cached, cachedArray, single, multiple, Plan}
 use Rattle.resolving.specs.Convert.{repliesOf}
 use Rattle.resolving.specs.Store.{storeOf}
 

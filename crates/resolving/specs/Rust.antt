@@ -13,8 +13,8 @@ use Rattle.resp3.specs.Value.{Value, Values, null, array, none, more, encode}
 use Rattle.resp3_element.specs.declared.Integer.{Integer}
 use Rattle.resp3_element.specs.declared.Integer.the-variants.{Is, No}
 use Rattle.resp3_element.specs.Meaning.{isError, integerOf, arrayOf}
-use Rattle.book.specs.Calls.{Storing}
-use Rattle.resolving.specs.Plan.{Missing, Place, served, waiting, Command, handedOn, cached, cachedArray, single, multiple, Plan}
+use Rattle.book.specs.Calls.{Missing, Storing}
+use Rattle.resolving.specs.Plan.{Place, served, waiting, Command, handedOn, cached, cachedArray, single, multiple, Plan}
 use Rattle.resolving.specs.Convert.{repliesOf}
 use Rattle.resolving.specs.Vec.{pushBack, setAt}
 
@@ -37,7 +37,7 @@ expireTime now client No = client
 
 -- `self.lru.insert(..)`: what the lru is told is put last
 abbrev pub insert : ℕ → Missing → Value → Value → List Storing → List Storing
-insert now m v pttl lru = lru ++ (record { key = m .key; command = m .command; value = encode v; expiry = expireTime now (m .expiry) (integerOf pttl) } ∷ [])
+insert now m v pttl lru = lru ++ (record { wanted = m .wanted; value = encode v; expiry = expireTime now (m .expiry) (integerOf pttl) } ∷ [])
 
 -- `if !matches!(&reply, &Value::ServerError(_)) { cache_manager.insert(..) }`
 abbrev pub insertUnlessError : ℕ → Missing → Value → Value → List Storing → List Storing

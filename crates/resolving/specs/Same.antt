@@ -14,8 +14,8 @@ use Rattle.resp3.specs.Value.{Value, Values, null, array, none, more, count}
 use Rattle.resp3_element.specs.declared.Integer.{Integer}
 use Rattle.resp3_element.specs.declared.Integer.the-variants.{Is, No}
 use Rattle.resp3_element.specs.Meaning.{isError, integerOf, arrayOf}
-use Rattle.book.specs.Calls.{Storing}
-use Rattle.resolving.specs.Plan.{Missing, Place, served, waiting, Command, handedOn, cached, cachedArray, single, multiple, Plan}
+use Rattle.book.specs.Calls.{Missing, Storing}
+use Rattle.resolving.specs.Plan.{Place, served, waiting, Command, handedOn, cached, cachedArray, single, multiple, Plan}
 use Rattle.resolving.specs.Convert.{repliesOf}
 use Rattle.resolving.specs.Store.{expiryOf, storeOf}
 use Rattle.resolving.specs.Resolve.{Outcome, wrong, gives, takeReply, optIn, takeSingle, Filled, fill, fillFrom, takeMultiple, takeCommand}

@@ -8,8 +8,7 @@ use Rattle.resp3.specs.Value.{Value, encode}
 use Rattle.resp3_element.specs.declared.Integer.{Integer}
 use Rattle.resp3_element.specs.declared.Integer.the-variants.{Is, No}
 use Rattle.resp3_element.specs.Meaning.{isError, integerOf}
-use Rattle.book.specs.Calls.{Storing}
-use Rattle.resolving.specs.Plan.{Missing}
+use Rattle.book.specs.Calls.{Missing, Storing}
 
 -- rule S9, the expiry: the client's, unless the server's time to live is positive and ends sooner. (Numbers do not end here and a client expiry has 64 bits,
 -- so that a sum past 64 bits never ends sooner: Expiry.antt. In the Rust it may panic.)
@@ -20,7 +19,7 @@ expiryOf clock client (Is (negsuc n)) = client
 
 -- the store of a reply (rule S9)
 abbrev pub storing : ℕ → Missing → Value → Value → Storing
-storing clock m pttl v = record { key = m .key; command = m .command; value = encode v; expiry = expiryOf clock (m .expiry) (integerOf pttl) }
+storing clock m pttl v = record { wanted = m .wanted; value = encode v; expiry = expiryOf clock (m .expiry) (integerOf pttl) }
 
 -- rule S8: a server error is never stored
 abbrev pub storeOf : ℕ → Missing → Value → Value → List Storing

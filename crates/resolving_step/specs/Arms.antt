@@ -15,8 +15,8 @@ use Rattle.resp3_element.specs.declared.Elements.{Elements}
 use Rattle.resp3_element.specs.declared.Elements.the-variants.{Of, No}
 use Rattle.resp3_element.specs.Meaning.{arrayOf, Inside, Stands, Holds}
 use Rattle.resp3_element.specs.CursorLaw.{element-law}
+use Rattle.book.specs.Calls.{Missing}
 use Rattle.planning.specs.Plan.{nullStart, nullEnd}
-use Rattle.resolving.specs.Plan.{Missing}
 use Rattle.resolving.specs.Resolve.{eaten}
 use Rattle.resolving_walk.specs.Walk.{nothing, move, handMove, singleMove, arrayMove, severalMove, waitingMove}
 use Rattle.resolving_step.specs.declared.Walk.{Walk}

@@ -9,7 +9,7 @@ use Rattle.config.specs.declared.CacheMode.{CacheMode}
 use Rattle.config.specs.declared.CacheMode.the-variants.{All, OptIn}
 use Rattle.format.specs.Runs.{encAll}
 use Rattle.resp3.specs.Value.{Values, none, more}
-use Rattle.book.specs.Calls.{Wanted}
+use Rattle.book.specs.Calls.{Wanted, missingUntil}
 use Rattle.planning.specs.Plan.{Node, handOn, servedValue, allServed, missingKey, several, waitingPlace, endOfSeveral, encNode}
 use Rattle.planning.specs.Plan.{handOnKind, servedKind, allServedKind, missingKind, severalKind, waitingKind, endKind}
 use Rattle.planning.specs.Rules.{GoodNode}
@@ -17,7 +17,6 @@ use Rattle.plan.specs.declared.NodeHead.{NodeHead}
 use Rattle.plan.specs.Head.{headAt, HeadIn}
 use Rattle.plan.specs.Node.{kindOf, firstOf, secondOf, node-defs}
 use Rattle.plan.specs.There.{headOf, node-law}
-use Rattle.resolving_walk.specs.Commands.{missingOf}
 use Rattle.resolving_walk.specs.Laws.{asked}
 use Rattle.resolving_walk.specs.Walk.{Move, stop, move, opted, singleMove, severalMove, nodeMove}
 use Rattle.resolving_step.specs.declared.Walk.{Walk}
@@ -45,7 +44,7 @@ no-kind k m e f = absurd (f e)
 
 module _ (p s : Bytes) (b : Bounds p s) (c : Walk) (n : NodeHead) where
   -- the key of a missing node
-  missed-is : (w : Wanted) (x : ℕ) → HeadFor p n (missingKey w x) → MissedIs p (missedOf n) (missingOf w x)
+  missed-is : (w : Wanted) (x : ℕ) → HeadFor p n (missingKey w x) → MissedIs p (missedOf n) (missingUntil x w)
   unfolding node-defs
   missed-is w x h =
       record {
@@ -57,7 +56,7 @@ module _ (p s : Bytes) (b : Bounds p s) (c : Walk) (n : NodeHead) where
       }
 
   -- of a place that waits
-  waiting-is : (w : Wanted) (x : ℕ) → HeadFor p n (waitingPlace w x) → MissedIs p (missedOf n) (missingOf w x)
+  waiting-is : (w : Wanted) (x : ℕ) → HeadFor p n (waitingPlace w x) → MissedIs p (missedOf n) (missingUntil x w)
   unfolding node-defs GoodNode
   waiting-is w x h =
       record {
@@ -112,7 +111,7 @@ module _ (p s : Bytes) (b : Bounds p s) (c : Walk) (n : NodeHead) where
     on-waiting k f (allServed m) es rs h l = absurd (omega (arith, h .kind))
     on-waiting k f (missingKey w x) es rs h l = absurd (omega (arith, h .kind))
     on-waiting k f (several m) es rs h l = absurd (omega (arith, h .kind))
-    on-waiting k f (waitingPlace w x) es rs h l = f p (missingOf w x) es rs b (waiting-is w x h) l
+    on-waiting k f (waitingPlace w x) es rs h l = f p (missingUntil x w) es rs b (waiting-is w x h) l
     on-waiting k f endOfSeveral es rs h l = absurd (omega (arith, h .kind))
 
     pub on-end : n .kind ≡ endKind → Ends s c r → (nd : Node) (es rs : Values) → HeadFor p n nd → Lists s c es rs → Moved p s c r (nodeMove mode clock nd es rs)
@@ -162,7 +161,7 @@ module _ (p s : Bytes) (b : Bounds p s) (c : Walk) (n : NodeHead) where
     missing-stop f e handOn es rs h i j l = absurd (omega arith)
     missing-stop f e (servedValue v) es rs h i j l = absurd (omega arith)
     missing-stop f e (allServed m) es rs h i j l = absurd (omega arith)
-    missing-stop f e (missingKey w x) es rs h i j l = stop-move mode rs es (λ q. singleMove clock (missingOf w x) es q) (f es rs l) e
+    missing-stop f e (missingKey w x) es rs h i j l = stop-move mode rs es (λ q. singleMove clock (missingUntil x w) es q) (f es rs l) e
     missing-stop f e (several m) es rs h i j l = stop-move mode rs es (λ q. severalMove m q) (f es rs l) e
     missing-stop f e (waitingPlace w x) es rs h i j l = absurd (omega arith)
     missing-stop f e endOfSeveral es rs h i j l = absurd (omega arith)
@@ -188,7 +187,7 @@ module _ (p s : Bytes) (b : Bounds p s) (c : Walk) (n : NodeHead) where
     missing-single d f k t (servedValue v) es rs h i j l = absurd (omega arith)
     missing-single d f k t (allServed m) es rs h i j l = absurd (omega arith)
     missing-single d f k t (missingKey w x) es rs h i j l =
-        opted-move mode rs es d (λ q. singleMove clock (missingOf w x) es q) (f es rs l) (λ q g. t p (missingOf w x) es q b (missed-is w x h) g)
+        opted-move mode rs es d (λ q. singleMove clock (missingUntil x w) es q) (f es rs l) (λ q g. t p (missingUntil x w) es q b (missed-is w x h) g)
     missing-single d f k t (several m) es rs h i j l = no-kind _ _ (h .kind) k
     missing-single d f k t (waitingPlace w x) es rs h i j l = absurd (omega arith)
     missing-single d f k t endOfSeveral es rs h i j l = absurd (omega arith)

@@ -12,8 +12,8 @@ use Rattle.buffer.specs.PartLaws.{length-part}
 use Rattle.resp3.specs.Value.{Value, encode, Means, nullBytes}
 use Rattle.resp3_element.specs.declared.Integer.the-variants.{Is}
 use Rattle.resp3_element.specs.Meaning.{isError, integerOf}
+use Rattle.book.specs.Calls.{Missing}
 use Rattle.planning.specs.Plan.{nullStart, nullEnd}
-use Rattle.resolving.specs.Plan.{Missing}
 use Rattle.resolving.specs.Store.{expiryOf}
 use Rattle.resolving.specs.Expiry.{not-later}
 use Rattle.resolving_walk.specs.Walk.{shown, header, nothing, fetched, bytesOf, storesOf}

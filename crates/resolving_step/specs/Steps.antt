@@ -14,13 +14,12 @@ use Rattle.format.specs.Runs.{encAll}
 use Rattle.resp3.specs.Value.{Value, Values, none, more, Means, nullBytes}
 use Rattle.resp3_element.specs.declared.Cursor.{Cursor}
 use Rattle.resp3_element.specs.Meaning.{Stands}
-use Rattle.book.specs.Calls.{Storing}
+use Rattle.book.specs.Calls.{Missing, Storing}
 use Rattle.cmd.specs.Pack.{head}
 use Rattle.planning.specs.Plan.{Node, encNode, missingKind, severalKind, nullStart}
 use Rattle.planning.specs.Rules.{GoodNode}
 use Rattle.plan.specs.declared.NodeHead.{NodeHead}
 use Rattle.plan.specs.Node.{kindOf, firstOf, secondOf, numberOf}
-use Rattle.resolving.specs.Plan.{Missing}
 use Rattle.resolving.specs.Resolve.{eaten}
 use Rattle.resolving.specs.Kept.{Asked, AllStorable}
 use Rattle.resolving_walk.specs.Walk.{Given, nothing, Move, stop, move, fetched, handMove, singleMove, severalMove, waitingMove, nodeMove, bytesOf, storesOf}
@@ -74,8 +73,7 @@ nextBytes p s Wrong = []
 abbrev pub keeping : Bytes → Bytes → Missed → ℕ → ℕ → Storing
 keeping p s m a e =
     record {
-      key = part p (m .key) (m .command - m .key);
-      command = part p (m .command) (m .end - m .command);
+      wanted = record { key = part p (m .key) (m .command - m .key); command = part p (m .command) (m .end - m .command) };
       value = part s a (e - a);
       expiry = m .expiry;
     }
@@ -151,8 +149,8 @@ pub record At (p s : Bytes) (c : Walk) (ns : List Node) (es rs : Values) : Type 
 -- a missing key stands in the plan
 pub record MissedIs (p : Bytes) (m : Missed) (w : Missing) : Type 0 where
   pub inside : MissedIn p m
-  pub key : part p (m .key) (m .command - m .key) ≡ w .key
-  pub command : part p (m .command) (m .end - m .command) ≡ w .command
+  pub key : part p (m .key) (m .command - m .key) ≡ w .wanted .key
+  pub command : part p (m .command) (m .end - m .command) ≡ w .wanted .command
   pub expiry : m .expiry ≡ w .expiry
   pub asked : Asked w
 

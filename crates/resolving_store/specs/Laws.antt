@@ -44,7 +44,7 @@ module _ (p : Setup) (e : ℕ) where
       → afterAll p (ons (stores e (ss ++ later))) bk ≡ afterAll p (ons (stores e later)) (afterAll p (ons (stores e ss)) bk)
   unfolding afterAll ons stores
   after-append [] later bk = refl
-  after-append (t ∷ ss) later bk = after-append ss later (after p (on (store (t .key) (t .command) (t .value) (t .expiry) e)) bk)
+  after-append (t ∷ ss) later bk = after-append ss later (after p (on (store (t .wanted .key) (t .wanted .command) (t .value) (t .expiry) e)) bk)
 
   refusals-append : (ss later : List Storing) (bk : Book)
       → refusals (answers p (ons (stores e (ss ++ later))) bk)
@@ -52,7 +52,7 @@ module _ (p : Setup) (e : ℕ) where
   unfolding afterAll answers ons stores
   refusals-append [] later bk = unfold refusals in omega arith
   refusals-append (t ∷ ss) later bk =
-      let q = on (store (t .key) (t .command) (t .value) (t .expiry) e) in
+      let q = on (store (t .wanted .key) (t .wanted .command) (t .value) (t .expiry) e) in
       let a = answerTo p q bk in
       let i = refusals-append ss later (after p q bk) in
       let f = refusals-first a (answers p (ons (stores e (ss ++ later))) (after p q bk)) in
@@ -86,15 +86,15 @@ module _ (g : Settings) (e : ℕ) where
   abbrev pub Inserts : Storing → Bytes → Bytes → Bool → Type 0
   Inserts t old new b =
       (rows : ℕ → Row) → Lent g old rows
-      → Lent g new (rowsAfter (setupNow g) (on (store (t .key) (t .command) (t .value) (t .expiry) e)) rows)
-      × (cond b stored noSpace ≡ effectIn (setupNow g) (store (t .key) (t .command) (t .value) (t .expiry) e) rows .answer)
+      → Lent g new (rowsAfter (setupNow g) (on (store (t .wanted .key) (t .wanted .command) (t .value) (t .expiry) e)) rows)
+      × (cond b stored noSpace ≡ effectIn (setupNow g) (store (t .wanted .key) (t .wanted .command) (t .value) (t .expiry) e) rows .answer)
 
   -- one
   stores-one : (t : Storing) (old new : Bytes) (b : Bool) → Inserts t old new b → Stores g e (t ∷ []) old new (refusedOf b)
   unfolding afterAll answers ons stores answerTo effect
   stores-one t old new b f bk l =
       let u = f (bk .rows) l in
-      let q = on (store (t .key) (t .command) (t .value) (t .expiry) e) in
+      let q = on (store (t .wanted .key) (t .wanted .command) (t .value) (t .expiry) e) in
       (subst (λ (rows : ℕ → Row). Lent g new rows) (sym (rows-after (setupNow g) q bk)) (u .0), refused-one b ∙ ap (λ (a : Answer). refusals (a ∷ [])) (u .1))
 
   -- one that is kept, and one that there is no space for
@@ -150,5 +150,5 @@ module _ (g : Settings) (e : ℕ) where
     keep-end o c old new n l k = rw (ended p s mode clock o c (k .bs) (k .ss) (k .reached) l) (k .stores)
 
 -- what the cache's store asks for
-pub insertable : (t : Storing) → Storable t → space.Storable (t .key) (t .command) (t .value) × (isValue (t .value) ≡ true)
+pub insertable : (t : Storing) → Storable t → space.Storable (t .wanted .key) (t .wanted .command) (t .value) × (isValue (t .value) ≡ true)
 insertable t h = (record { key = h .key; command = h .command; value = h .value .small }, value-law (t .value) .1 (h .value))

@@ -5,14 +5,10 @@ use Prim.Native.Nat.{ℕ, zero, suc}
 use lib.ListN.{drop}
 use Rattle.resp3.specs.Value.{Value, Values, null, none, more}
 use Rattle.resp3.specs.Decode.{decode}
-use Rattle.book.specs.Calls.{Wanted}
+use Rattle.book.specs.Calls.{missingUntil}
 use Rattle.planning.specs.Plan.{Node, handOn, servedValue, allServed, missingKey, several, waitingPlace, endOfSeveral}
 use Rattle.planning.specs.Plan as nodes
-use Rattle.resolving.specs.Plan.{Missing, Place, served, waiting, Command, handedOn, cached, cachedArray, single, multiple, Plan}
-
--- a missing key with its command key, and its client expiry
-abbrev pub missingOf : Wanted → ℕ → Missing
-missingOf w x = record { key = w .key; command = w .command; expiry = x }
+use Rattle.resolving.specs.Plan.{Place, served, waiting, Command, handedOn, cached, cachedArray, single, multiple, Plan}
 
 -- "a served value, as a command's answer or as one of its places"
 unfoldable pub valueAt : Node → Value
@@ -31,7 +27,7 @@ placeAt (servedValue v) = served (decode v)
 placeAt (allServed n) = served null
 placeAt (missingKey w x) = served null
 placeAt (several n) = served null
-placeAt (waitingPlace w x) = waiting (missingOf w x)
+placeAt (waitingPlace w x) = waiting (missingUntil x w)
 placeAt endOfSeveral = served null
 
 -- the first n nodes as values
@@ -53,7 +49,7 @@ commandsOf (suc k) [] = []
 commandsOf (suc k) (handOn ∷ ns) = handedOn ∷ commandsOf k ns
 commandsOf (suc k) (servedValue v ∷ ns) = cached (decode v) ∷ commandsOf k ns
 commandsOf (suc k) (allServed n ∷ ns) = cachedArray (valuesAt n ns) ∷ commandsOf k (drop n ns)
-commandsOf (suc k) (missingKey w x ∷ ns) = single (missingOf w x) ∷ commandsOf k ns
+commandsOf (suc k) (missingKey w x ∷ ns) = single (missingUntil x w) ∷ commandsOf k ns
 commandsOf (suc k) (several n ∷ ns) = multiple (placesAt n ns) ∷ commandsOf k (drop (suc n) ns)
 commandsOf (suc k) (waitingPlace w x ∷ ns) = []
 commandsOf (suc k) (endOfSeveral ∷ ns) = []

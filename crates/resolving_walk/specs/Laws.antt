@@ -10,20 +10,16 @@ use Rattle.format.specs.Runs.{All}
 use Rattle.resp3.specs.Value.{Values, none, more, count, Valid, encode, IsValue}
 use Rattle.resp3.specs.Decode.{decode}
 use Rattle.resp3.specs.Law.{decode-law}
-use Rattle.book.specs.Calls.{Wanted}
+use Rattle.book.specs.Calls.{Wanted, missingUntil}
 use Rattle.planning.specs.Plan.{Node, handOn, servedValue, allServed, missingKey, several, waitingPlace, endOfSeveral}
 use Rattle.planning.specs.Plan as nodes
 use Rattle.planning.specs.Rules.{GoodNode, valuesThen, endThen, placesThen, ordered, GoodPlan}
-use Rattle.resolving.specs.Plan.{Missing, Place, served, waiting, Command, handedOn, cached, cachedArray, single, multiple}
+use Rattle.resolving.specs.Plan.{Place, served, waiting, Command, handedOn, cached, cachedArray, single, multiple}
 use Rattle.resolving.specs.Made.{Every, PlacesHave, CommandHas, CommandsHave}
 use Rattle.resolving.specs.Kept.{Sent, Asked, Within}
-use Rattle.resolving_walk.specs.Commands.{missingOf, valueAt, placeAt, valuesAt, placesAt, commandsOf, planRead}
+use Rattle.resolving_walk.specs.Commands.{valueAt, placeAt, valuesAt, placesAt, commandsOf, planRead}
 
 -- ---- commands as nodes
-
--- a missing key without its expiry
-abbrev pub wantedOf : Missing → Wanted
-wantedOf m = record { key = m .key; command = m .command }
 
 -- served values, before other nodes
 unfoldable pub valueNodes : Values → List Node → List Node
@@ -34,7 +30,7 @@ valueNodes (more v vs) ns = servedValue (encode v) ∷ valueNodes vs ns
 unfoldable pub placeNodes : List Place → List Node → List Node
 placeNodes [] ns = endOfSeveral ∷ ns
 placeNodes (served v ∷ ps) ns = servedValue (encode v) ∷ placeNodes ps ns
-placeNodes (waiting m ∷ ps) ns = waitingPlace (wantedOf m) (m .expiry) ∷ placeNodes ps ns
+placeNodes (waiting m ∷ ps) ns = waitingPlace (m .wanted) (m .expiry) ∷ placeNodes ps ns
 
 -- all commands
 unfoldable pub commandNodes : List Command → List Node
@@ -42,7 +38,7 @@ commandNodes [] = []
 commandNodes (handedOn ∷ cs) = handOn ∷ commandNodes cs
 commandNodes (cached v ∷ cs) = servedValue (encode v) ∷ commandNodes cs
 commandNodes (cachedArray vs ∷ cs) = allServed (count vs) ∷ valueNodes vs (commandNodes cs)
-commandNodes (single m ∷ cs) = missingKey (wantedOf m) (m .expiry) ∷ commandNodes cs
+commandNodes (single m ∷ cs) = missingKey (m .wanted) (m .expiry) ∷ commandNodes cs
 commandNodes (multiple ps ∷ cs) = several (length ps) ∷ placeNodes ps (commandNodes cs)
 
 -- ---- what is read is what was written
@@ -56,7 +52,7 @@ valid : (v : Bytes) → IsValue v → Valid (decode v)
 valid v h = rw (decode-law v (h .v) (h .means)) (h .means .ok)
 
 -- a missing key is within the limits
-pub asked : (w : Wanted) (x : ℕ) → GoodNode (missingKey w x) → Asked (missingOf w x)
+pub asked : (w : Wanted) (x : ℕ) → GoodNode (missingKey w x) → Asked (missingUntil x w)
 unfolding GoodNode
 asked w x g = record { key = g .0 .key; command = g .0 .command; expiry = g .1 }
 
@@ -171,7 +167,7 @@ commands-read (suc k) (allServed n ∷ ns) g h =
       all = (a .all, r .all);
     }
 commands-read (suc k) (missingKey w x ∷ ns) g h =
-    one-more (single (missingOf w x)) (missingKey w x) k ns (λ cs. refl) (asked w x (g .0)) refl (commands-read k ns (g .1) h)
+    one-more (single (missingUntil x w)) (missingKey w x) k ns (λ cs. refl) (asked w x (g .0)) refl (commands-read k ns (g .1) h)
 commands-read (suc k) (several n ∷ ns) g h =
     let a = places-read (λ l. ordered k l) n ns (g .1) h in
     let r = commands-read k (drop (suc n) ns) (a .good) (a .next) in

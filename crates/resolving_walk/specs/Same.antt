@@ -14,10 +14,10 @@ use Rattle.decimal.specs.Digits.{digits}
 use Rattle.resp3.specs.Value.{Value, Values, null, array, none, more, count, encs, encode, nullBytes}
 use Rattle.resp3.specs.Rows.{enc-is}
 use Rattle.resp3_element.specs.Meaning.{isError, arrayOf}
-use Rattle.book.specs.Calls.{Storing}
+use Rattle.book.specs.Calls.{Missing, Storing}
 use Rattle.cmd.specs.Pack.{head}
 use Rattle.planning.specs.Plan.{Node}
-use Rattle.resolving.specs.Plan.{Missing, Place, served, waiting, Command, handedOn, cached, cachedArray, single, multiple, Plan}
+use Rattle.resolving.specs.Plan.{Place, served, waiting, Command, handedOn, cached, cachedArray, single, multiple, Plan}
 use Rattle.resolving.specs.Convert.{repliesOf}
 use Rattle.resolving.specs.Store.{storeOf}
 use Rattle.resolving.specs.Resolve.{Outcome, wrong, gives, takeReply, optIn, takeSingle, Filled, placed, fill, fillFrom, takeMultiple, takeCommand}

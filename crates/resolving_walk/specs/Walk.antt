@@ -10,13 +10,11 @@ use Rattle.config.specs.declared.CacheMode.{CacheMode}
 use Rattle.config.specs.declared.CacheMode.the-variants.{All, OptIn}
 use Rattle.resp3.specs.Value.{Value, Values, none, more, encode, nullBytes}
 use Rattle.resp3_element.specs.Meaning.{isError, arrayOf}
-use Rattle.book.specs.Calls.{Storing}
+use Rattle.book.specs.Calls.{Missing, missingUntil, Storing}
 use Rattle.cmd.specs.Pack.{head}
 use Rattle.planning.specs.Plan.{Node, handOn, servedValue, allServed, missingKey, several, waitingPlace, endOfSeveral}
-use Rattle.resolving.specs.Plan.{Missing}
 use Rattle.resolving.specs.Store.{storing}
 use Rattle.resolving.specs.Resolve.{eaten}
-use Rattle.resolving_walk.specs.Commands.{missingOf}
 
 -- what a node gives: bytes of the answer; the head of an array of so many; bytes of the answer that are stored too; nothing
 pub data Given : Type 0 where
@@ -72,9 +70,9 @@ unfoldable pub nodeMove : CacheMode → ℕ → Node → Values → Values → M
 nodeMove mode clock handOn es rs = handMove es rs
 nodeMove mode clock (servedValue v) es rs = move (shown v) es rs
 nodeMove mode clock (allServed n) es rs = move (header n) es rs
-nodeMove mode clock (missingKey w x) es rs = opted mode rs (λ q. singleMove clock (missingOf w x) es q)
+nodeMove mode clock (missingKey w x) es rs = opted mode rs (λ q. singleMove clock (missingUntil x w) es q)
 nodeMove mode clock (several n) es rs = opted mode rs (λ q. severalMove n q)
-nodeMove mode clock (waitingPlace w x) es rs = waitingMove clock (missingOf w x) es rs
+nodeMove mode clock (waitingPlace w x) es rs = waitingMove clock (missingUntil x w) es rs
 nodeMove mode clock endOfSeveral es rs = move nothing none (eaten es rs)
 
 -- the bytes of the answer that a node gives, and its stores
