@@ -17,13 +17,14 @@ use Rattle.book.specs.Calls.{Call, ons, eventsOf, afterCalls}
 use Rattle.book.specs.Each.{Each}
 use Rattle.book.specs.Trace.{Proper}
 use Rattle.book.specs.Storable.{StorableEntries, StorableEvent, StorableCalls}
-use Rattle.format.specs.Runs.{All}
+use Rattle.format.specs.Lists.{All}
 use Rattle.arena.specs.Layout.{encode}
 use Rattle.arena.specs.Decode.{mayStore, decode}
 use Rattle.arena.specs.Tests.{Fits}
 use Rattle.arena.specs.Image.{Sized, Image, decode-exact, decode-encode}
 use Rattle.arena.specs.Keeps.{formed}
-use Rattle.arena.specs.Sequence.{Held, lend, heldAfter, sequence-leaves}
+use Rattle.arena.specs.Sequence.{heldAfter, sequence-leaves}
+use Rattle.arena.specs.Held.{Held, lend}
 use Rattle.arena.specs.Stores.{storing}
 use Rattle.arena.specs.Reach.{building, building-all, singles, not-yet, reached}
 use Rattle.arena.specs.Octets.{EventOctets, arena-octets}

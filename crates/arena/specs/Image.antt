@@ -12,10 +12,11 @@ use lib.ListN.{length}
 use lib.Dec.{ltb}
 use borrow.Author.Tests.{ltb-true, ltb-false, le-ltb}
 use Rattle.buffer.specs.Cases.{byTest}
-use Rattle.buffer.specs.Same.{Bytes, same, same-refl, same-eq}
+use Rattle.buffer.specs.Same.{Bytes, same}
+use Rattle.buffer.specs.SameLaws.{same-refl, same-eq}
 use Rattle.book.specs.Book.{Setup, Entry, Row, entryBytes, rowBytes}
 use Rattle.book.specs.Each.{Each}
-use Rattle.book.specs.Sound.{sound-nil}
+use Rattle.book.specs.SoundLaws.{sound-nil}
 use Rattle.arena.specs.Layout.{encode}
 use Rattle.arena.specs.Decode.{every, readArena, rowsFine, isImage, decode}
 use Rattle.arena.specs.Length.{length-encode}

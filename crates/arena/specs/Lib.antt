@@ -11,6 +11,7 @@ pub mod PlaceLaws
 pub mod Empty
 pub mod Keeps
 pub mod Sequence
+pub mod Held
 pub mod Pieces
 pub mod Edit
 pub mod Stores
@@ -19,3 +20,4 @@ pub mod Reach
 pub mod Octets
 pub mod Cause9
 pub mod Sizes
+pub mod SetupOf

@@ -12,7 +12,7 @@ use Rattle.buffer.specs.Same.{Bytes}
 use Rattle.buffer.specs.Field.{Octets}
 use Rattle.book.specs.Book.{Setup, Entry, Item, Row, lookup, store, invalidate, Event, on, invalidateAll, newEpoch}
 use Rattle.book.specs.Each.{Each}
-use Rattle.format.specs.Runs.{All}
+use Rattle.format.specs.Lists.{All}
 use Rattle.arena.specs.Layout.{zeros, head, itemHead, encEntry, encEntries, encItem, encItems, encShard, encShards, encode}
 use Rattle.arena.specs.Around.{around}
 use Rattle.arena.specs.Stores.{storing}

@@ -12,7 +12,8 @@ use Rattle.book.specs.Calls.{Call, single, ons, afterCall, afterCalls, call-def
 use Rattle.book.specs.Each.{Each}
 use Rattle.book.specs.Sound.{SoundItem, Sound}
 use Rattle.book.specs.Trace.{row-here, row-elsewhere}
-use Rattle.format.specs.Runs.{All, all-append}
+use Rattle.format.specs.Runs.{all-append}
+use Rattle.format.specs.Lists.{All}
 use Rattle.arena.specs.Stores.{storing, making, making-all, rowAfter, made}
 
 -- the stores that make the first n rows

@@ -11,17 +11,11 @@ use Rattle.book.specs.Book.{Setup, Row, Book, Counts, Answer, fresh}
 use Rattle.book.specs.Calls.{Call, afterCall, replyTo, afterCalls, replies}
 use Rattle.book.specs.Trace.{Proper}
 use Rattle.book.specs.Storable.{StorableCalls}
-use Rattle.arena.specs.Layout.{encode}
 use Rattle.arena.specs.Decode.{mayStore, decode}
 use Rattle.arena.specs.Tests.{WellFormed}
 use Rattle.arena.specs.Image.{Sized, encoded-length, decode-encode}
 use Rattle.arena.specs.Keeps.{formed}
-
--- what the caller holds between calls and lends to the next one (rule D1)
-pub record Held : Type 0 where
-  pub arena : Bytes
-  pub counts : Counts
-  pub next : ℕ
+use Rattle.arena.specs.Held.{Held, bookOf, lend}
 
 -- what a call comes to
 pub data Outcome : Type 0 where
@@ -43,14 +37,6 @@ outcomeOf (some xs) = said xs
 unfoldable pub outcomesOf : List (Option (List Answer)) → List Outcome
 outcomesOf [] = []
 outcomesOf (x ∷ xs) = outcomeOf x ∷ outcomesOf xs
-
--- the book as the caller holds it, with an arena of n bytes
-unfoldable pub lend : Setup → ℕ → Book → Held
-lend p n bk = record { arena = encode p n (bk .rows); counts = bk .counts; next = bk .next }
-
--- the book that the caller holds, with the rows that its arena encodes
-abbrev pub bookOf : (ℕ → Row) → Held → Book
-bookOf rows h = record { rows = rows; counts = h .counts; next = h .next }
 
 -- a call on the rows that the arena encodes; with none it is refused, and everything is left as it was
 unfoldable pub callWith : Setup → Option (ℕ → Row) → Call → Held → Result

@@ -1,8 +1,8 @@
--- The setup that a size and an arena's length give, and that cause 1 leaves of it what the theorems ask; so cause 9 for every size and every arena
--- that cause 1 lets through. Assumes nothing; `hash` stands for SipHash-1-3 with both key words zero.
+-- Of the setup that a size and an arena's length give (SetupOf.antt) cause 1 leaves what the theorems ask; so cause 9 for every size and every arena that
+-- cause 1 lets through. Assumes nothing; `hash` stands for SipHash-1-3 with both key words zero.
 use mathlib.Core.Path.{_≡_}
 use mathlib.Core.Logic.{_↔_}
-use Prim.Native.Nat.{ℕ, _%_, _≤_}
+use Prim.Native.Nat.{ℕ, _≤_}
 use native.Mathlib.Omega.{arith}
 use native.Mathlib.Nat.{mod-lt, le-trans, le-mul-of-pos-right, mul-comm}
 use mathlib.Core.Bool.{Bool}
@@ -14,19 +14,12 @@ use Rattle.config.specs.Config.{checked}
 use Rattle.config.specs.Laws.{Passed, passed}
 use Rattle.config.specs.declared.Settings.{Settings}
 use Rattle.config.specs.declared.CheckedConfig.the-variants.{Fine}
-use Rattle.book.specs.Book.{Setup, Counts}
+use Rattle.book.specs.Book.{Counts}
 use Rattle.book.specs.Trace.{Proper}
 use Rattle.arena.specs.Decode.{decode}
 use Rattle.arena.specs.Image.{Sized}
 use Rattle.arena.specs.Cause9.{LeftBy, cause-nine}
-
--- so many shards, of so many keys and bytes each; a key's shard is its hash modulo their number (rule B2)
-unfoldable pub setupOf : (Bytes → ℕ) → ℕ → ℕ → ℕ → Setup
-setupOf hash shards keys bytes = record { shards = shards; keys = keys; shardOf = λ k. hash k % shards; bytes = bytes }
-
--- what settings give that cause 1 let through
-abbrev pub setupFor : (Bytes → ℕ) → Settings → Setup
-setupFor hash g = setupOf hash (g .shards) (g .keys) (g .bytes)
+use Rattle.arena.specs.SetupOf.{setupOf, setupFor}
 
 module _ (hash : Bytes → ℕ) (size mode ttl n : ℕ) (g : Settings) (w : Passed size mode ttl n g) where
   pub sized : Sized (setupFor hash g) n

@@ -7,12 +7,14 @@ use mathlib.Core.List.{List, [], _∷_, _++_, append-assoc, append-nil}
 use lib.ListN.{length}
 use borrow.Author.Tests.{le-leb, lt-leb}
 use Rattle.buffer.specs.Cases.{byTest, eqb-same}
-use Rattle.buffer.specs.Same.{Bytes, same, same-refl, same-eq}
+use Rattle.buffer.specs.Same.{Bytes, same}
+use Rattle.buffer.specs.SameLaws.{same-refl, same-eq}
 use Rattle.book.specs.Book.{Setup, Entry, Item, Row, find, replace, valueFor, setValue, roomForOne, storedRow, entryBytes, rowBytes, fits, ifFits}
 use Rattle.book.specs.Book.{Keyed, store, effectOn}
 use Rattle.book.specs.Each.{Each}
 use Rattle.book.specs.Sound.{DistinctCommands, Sound}
-use Rattle.format.specs.Runs.{All, all-append}
+use Rattle.format.specs.Runs.{all-append}
+use Rattle.format.specs.Lists.{All}
 use Rattle.arena.specs.Pieces.{entryBytes-append}
 
 -- ---- the stores

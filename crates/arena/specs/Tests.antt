@@ -11,9 +11,8 @@ use borrow.Author.Tests.{leb-true, le-leb, ltb-true, lt-ltb, eqb-true, eqb-false
 use Rattle.buffer.specs.Cases.{byTest}
 use Rattle.buffer.specs.Same.{Bytes}
 use Rattle.book.specs.Book.{Setup, Entry, Item, Row, find, valueFor, fits}
-use Rattle.book.specs.Rows.{Distinct}
+use Rattle.book.specs.Sound.{Distinct, DistinctCommands, SoundItem, Sound}
 use Rattle.book.specs.Each.{Each}
-use Rattle.book.specs.Sound.{DistinctCommands, SoundItem, Sound}
 use Rattle.book.specs.Storable.{StorableEntries, StorableItem}
 use Rattle.arena.specs.Decode.{every, absent, distinctKeys, distinctCommands, mayStore, itemFits, itemFine, rowFine, rowsFine}
 

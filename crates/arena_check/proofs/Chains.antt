@@ -9,7 +9,8 @@ use lib.Seq.{getD-set-same, getD-set-other}
 use lib.Dec.{eqb, ltb}
 use borrow.Author.Tests.{eqb-true, eqb-false, ltb-true, ltb-false}
 use Rattle.buffer.specs.Cases.{byTest}
-use Rattle.buffer.specs.Same.{Bytes, same, unequal-same}
+use Rattle.buffer.specs.Same.{Bytes, same}
+use Rattle.buffer.specs.SameLaws.{unequal-same}
 use Rattle.buffer.specs.Field.{read32}
 use Rattle.arena_check.specs.Walk.{nth, before}
 use Rattle.arena_check.specs.Check.{keyIn, nextIn}

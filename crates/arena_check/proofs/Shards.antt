@@ -17,7 +17,7 @@ use Rattle.book.specs.Book.{Setup}
 use Rattle.resp3.specs.Ends.{isValue}
 use Rattle.siphash.specs.Sip.{sipHash13}
 use Rattle.arena.specs.Decode.{every, isImage}
-use Rattle.arena.specs.Sizes.{setupOf}
+use Rattle.arena.specs.SetupOf.{setupOf}
 use Rattle.arena_check.specs.Home.{homeIn}
 use Rattle.arena_check.specs.Law.{check-law}
 use Rattle.arena_check.specs.Check.{itemsEnd, shardOk, shardsOk, arenaOk}

@@ -16,7 +16,7 @@ use Rattle.buffer.specs.Zero.{allZero, zeros-pass}
 use Rattle.config.specs.Limits.{maxCommandKey}
 use Rattle.book.specs.Book.{Entry, valueFor, entryBytes}
 use Rattle.book.specs.Sound.{DistinctCommands}
-use Rattle.format.specs.Runs.{All}
+use Rattle.format.specs.Lists.{All}
 use Rattle.arena.specs.Layout.{zeros, head, encEntry, encEntries}
 use Rattle.arena.specs.Length.{length-entry, length-entries}
 use Rattle.arena.specs.Read.{command-length, value-length, entry-command, entry-value}

@@ -16,10 +16,9 @@ use Rattle.buffer.specs.PartLaws.{part-add, part-at, length-part}
 use Rattle.buffer.specs.Zero.{allZero, zeros-pass}
 use Rattle.config.specs.Limits.{maxKey, maxCommandKey}
 use Rattle.book.specs.Book.{Setup, Entry, Item, Row, find, entryBytes, rowBytes}
-use Rattle.book.specs.Rows.{Distinct}
-use Rattle.book.specs.Sound.{SoundItem}
+use Rattle.book.specs.Sound.{Distinct, SoundItem}
 use Rattle.book.specs.Storable.{StorableEntries}
-use Rattle.format.specs.Runs.{All}
+use Rattle.format.specs.Lists.{All}
 use Rattle.arena.specs.Decode.{mayStore}
 use Rattle.arena.specs.Image.{row-small}
 use Rattle.arena.specs.Layout.{zeros, itemHead, encEntries, encItem, encItems}

@@ -10,13 +10,14 @@ use lib.Seq.{take-add, drop-at}
 use lib.Dec.{ltb}
 use borrow.Author.Tests.{ltb-true, ltb-false, lt-ltb}
 use Rattle.buffer.specs.Cases.{byTest}
-use Rattle.buffer.specs.Same.{Bytes, same, same-refl}
+use Rattle.buffer.specs.Same.{Bytes, same}
+use Rattle.buffer.specs.SameLaws.{same-refl}
 use Rattle.buffer.specs.Field.{Octets}
 use Rattle.buffer.specs.Part.{part}
 use Rattle.buffer.specs.PartLaws.{around-part, length-part}
 use Rattle.buffer.specs.Zero.{allZero, zeros-pass, passed-zeros}
 use Rattle.book.specs.Book.{Setup, rowBytes}
-use Rattle.book.specs.Sound.{sound-nil}
+use Rattle.book.specs.SoundLaws.{sound-nil}
 use Rattle.arena.specs.Around.{shard-part}
 use Rattle.arena.specs.Decode.{readShard, readArena, isImage}
 use Rattle.arena.specs.Image.{Sized, Image, read-image}

@@ -16,7 +16,7 @@ use Rattle.buffer.specs.Zero.{allZero, zeros-pass, passed-zeros}
 use Rattle.book.specs.Book.{Setup, Item, Row, rowBytes}
 use Rattle.book.specs.Each.{Each}
 use Rattle.book.specs.Sound.{SoundItem}
-use Rattle.format.specs.Runs.{All}
+use Rattle.format.specs.Lists.{All}
 use Rattle.arena.specs.Decode.{readShard}
 use Rattle.arena.specs.Image.{items-few, row-small}
 use Rattle.arena.specs.Layout.{zeros, head, encItems, encShard}

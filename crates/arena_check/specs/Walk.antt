@@ -11,7 +11,8 @@ use Rattle.buffer.specs.Cases.{byTest}
 use Rattle.buffer.specs.Same.{Bytes, same}
 use Rattle.buffer.specs.Part.{part}
 use Rattle.buffer.specs.PartLaws.{part-add}
-use Rattle.format.specs.Runs.{All, all-append}
+use Rattle.format.specs.Runs.{all-append}
+use Rattle.format.specs.Lists.{All}
 
 -- ---- the walk
 

@@ -11,7 +11,7 @@ ghost use Rattle.resp3.specs.Ends.{isValue};
 ghost use Rattle.arena_check.specs.Walk.{nth, before};
 ghost use Rattle.siphash.specs.Sip.{sipHash13};
 ghost use Rattle.arena.specs.Decode.{isImage};
-ghost use Rattle.arena.specs.Sizes.{setupOf};
+ghost use Rattle.arena.specs.SetupOf.{setupOf};
 ghost use Rattle.arena_check.specs.Home.{homeIn, mixed, markedBy, markOf};
 ghost use Rattle.arena_check.specs.Chain.{Stand, keysFrom, Among, Answers, Latest, Chains, Linked, Tables, Chained};
 ghost use Rattle.arena_check.specs.Check.{keyIn, nextIn, keyAt, itemNext, itemWithin, entryOk, entriesEnd, itemOk, itemsEnd, shardOk};

@@ -11,12 +11,7 @@ use Rattle.buffer.specs.Same.{Bytes}
 use Rattle.config.specs.Wrap.{wrap}
 use Rattle.book.specs.Book.{Row, Setup, Book, Counts, plus, store, Event, on, invalidateAll, newEpoch, fresh, ifFits, effectOn, effect, count, put, after}
 use Rattle.book.specs.Calls.{run}
-
--- three numbers of 64 bits
-pub record Counted (c : Counts) : Type 0 where
-  pub hits : c .hits < 2 ^ 64
-  pub misses : c .misses < 2 ^ 64
-  pub invalidates : c .invalidates < 2 ^ 64
+use Rattle.book.specs.Counted.{Counted}
 
 -- what wraps is below 2^64
 wrap-below : (n : ℕ) → wrap n < 2 ^ 64

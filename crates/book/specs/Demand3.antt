@@ -14,11 +14,10 @@ use Rattle.config.specs.Wrap.{wrap}
 use Rattle.book.specs.Book.{Row, Setup, Book, Counts, Answer, hit, miss, stored, noSpace, number, lookup, store, Event, on, fresh, find}
 use Rattle.book.specs.Book.{storedRow, rowBytes, fits, after}
 use Rattle.book.specs.Calls.{Storing, Call, planning, resolving, resolving7, push, pushAll, single, takeEpoch, refused}
-use Rattle.book.specs.Calls.{eventsOf, replyTo, refusals, afterCalls, replies, run, onto, traced}
-use Rattle.book.specs.Calls.{shardsOf, NoneCommon}
+use Rattle.book.specs.Calls.{eventsOf, replyTo, refusals, afterCalls, replies, run, onto, traced, shardsOf, NoneCommon}
 use Rattle.book.specs.Residence.{ServedBy}
 use Rattle.book.specs.Trace.{SoundBook}
-use Rattle.book.specs.Counts.{Counted}
+use Rattle.book.specs.Counted.{Counted}
 use Rattle.book.specs.Tally.{hitsIn, missesIn, tallyAll}
 use Rattle.book.specs.Exchange.{Movable, Swapped}
 

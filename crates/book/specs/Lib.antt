@@ -6,10 +6,13 @@ pub mod CallCases
 pub mod ResidenceCases
 pub mod Rows
 pub mod Each
+pub mod EachLaws
 pub mod Sound
+pub mod SoundLaws
 pub mod Trace
 pub mod Storable
 pub mod Counts
+pub mod Counted
 pub mod Tally
 pub mod Items
 pub mod Lookups

@@ -7,7 +7,8 @@ use mathlib.Core.Bool.{true, false, true≢false}
 use mathlib.Core.Option.{Option, none, some, Option·none-ne-some, Option·some-injective}
 use mathlib.Core.List.{List, [], _∷_, _++_}
 use Rattle.buffer.specs.Cases.{byTest}
-use Rattle.buffer.specs.Same.{Bytes, same, same-eq}
+use Rattle.buffer.specs.Same.{Bytes, same}
+use Rattle.buffer.specs.SameLaws.{same-eq}
 use Rattle.book.specs.Book.{Entry, Item, Setup, Book, Counts, hit, lookup, Event, on, fresh, find, valueFor, setValue, answerTo}
 use Rattle.book.specs.Rows.{same-comm, value-set, value-set-other}
 use Rattle.book.specs.Calls.{run}

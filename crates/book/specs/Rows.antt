@@ -6,10 +6,12 @@ use mathlib.Core.Bool.{Bool, true, false, cond, true≢false, false≢true}
 use mathlib.Core.Option.{none, some, Option·none-ne-some, Option·some-injective}
 use mathlib.Core.List.{List, [], _∷_, _++_}
 use Rattle.buffer.specs.Cases.{byTest}
-use Rattle.buffer.specs.Same.{Bytes, same, same-refl, same-eq}
+use Rattle.buffer.specs.Same.{Bytes, same}
+use Rattle.buffer.specs.SameLaws.{same-refl, same-eq}
 use Rattle.book.specs.CallCases.{refused-between}
 use Rattle.book.specs.ResidenceCases.{all-in-common}
 use Rattle.book.specs.Book.{Entry, Item, Row, find, without, replace, withoutOldest, valueFor, setValue}
+use Rattle.book.specs.Sound.{Distinct}
 
 -- one name that opens the changes of a row
 unfoldable row-defs : Unit {0}
@@ -86,12 +88,6 @@ find-replace-other k j new [] d n = refl
 find-replace-other k j new (it ∷ row) d n =
     byTest (same k (it .key)) (λ e. rw (e, other k j (it .key) d e, other k j (new .key) d n))
     (λ e. rw e (rw (find-replace-other k j new row d n)))
-
--- ---- rows with no key twice
-
-abbrev pub Distinct : Row → Type 0
-Distinct [] = Unit {0}
-Distinct (it ∷ row) = (find (it .key) row ≡ none) × Distinct row
 
 -- where the key's item stands: it alone goes or is replaced, and the others stay in their order
 pub record Place (k : Bytes) (row : Row) (it : Item) : Type 0 where

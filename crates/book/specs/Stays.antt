@@ -6,7 +6,8 @@ use mathlib.Core.Option.{Option, none, some, Option·none-ne-some, Option·some-
 use lib.Dec.{eqb}
 use borrow.Author.Tests.{eqb-false, ne-eqb, eqb-true}
 use Rattle.buffer.specs.Cases.{byTest, eqb-same}
-use Rattle.buffer.specs.Same.{Bytes, same, same-refl, same-eq}
+use Rattle.buffer.specs.Same.{Bytes, same}
+use Rattle.buffer.specs.SameLaws.{same-refl, same-eq}
 use Rattle.book.specs.Book.{Item, Setup, Book, Keyed, lookup, store, invalidate, Event, on, invalidateAll, newEpoch, current, newItem, updated}
 use Rattle.book.specs.Book.{keyOf, effectOn, effect, after, answerTo}
 use Rattle.book.specs.Trace.{SoundBook}

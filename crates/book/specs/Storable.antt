@@ -5,12 +5,14 @@ use Prim.Native.Nat.{ℕ, _^_, _<_}
 use mathlib.Core.Bool.{Bool, true}
 use mathlib.Core.List.{List, [], _∷_}
 use Rattle.buffer.specs.Cases.{byTest}
-use Rattle.buffer.specs.Same.{Bytes, same, same-eq}
+use Rattle.buffer.specs.Same.{Bytes, same}
+use Rattle.buffer.specs.SameLaws.{same-eq}
 use Rattle.book.specs.Book.{Entry, Item, Row, Setup, Book, Counts, Keyed, lookup, store, invalidate, Event, on, invalidateAll, newEpoch, fresh}
 use Rattle.book.specs.Book.{setValue, answers}
 use Rattle.book.specs.Calls.{Call, planning, resolving, resolving7, push, pushAll, single, takeEpoch, refused, eventsOf, isRefused, remaining}
 use Rattle.book.specs.Calls.{happening, afterCalls, run, onto, traced}
-use Rattle.book.specs.Each.{Each, Brings, each-effectOn}
+use Rattle.book.specs.Each.{Each, Brings}
+use Rattle.book.specs.EachLaws.{each-effectOn}
 use Rattle.book.specs.Trace.{Keeps, KeepsAll, kept-run, run-traced}
 
 module _ (may : Bytes → Bytes → Bytes → Bool) where

@@ -15,7 +15,8 @@ use Rattle.book.specs.Book.{store, invalidate, Event, on, invalidateAll,
 use Rattle.book.specs.Book.{keyOf, effectOn, effect, count, put, after, answerTo, afterAll, answers}
 use Rattle.book.specs.Calls.{Storing, Call, planning, resolving, resolving7, push, pushAll, single, takeEpoch, refused, stores, ons, eventsOf}
 use Rattle.book.specs.Calls.{isRefused, remaining, happening, afterCall, replyTo, afterCalls, replies}
-use Rattle.book.specs.Counts.{Counted, fit-adds}
+use Rattle.book.specs.Counts.{fit-adds}
+use Rattle.book.specs.Counted.{Counted}
 
 -- ---- what is counted
 

@@ -11,7 +11,8 @@ use Rattle.buffer.specs.Cases.{byTest, eqb-same}
 use Rattle.buffer.specs.Same.{Bytes}
 use Rattle.book.specs.Book.{Row, Setup, Book, Counts, keyOf, effectOn, Event, on, invalidateAll, newEpoch, fresh, setRow, put, effect, after, afterAll}
 use Rattle.book.specs.Calls.{Call, happening, afterCall, afterCalls, run, onto, traced}
-use Rattle.book.specs.Sound.{Sound, sound-nil, sound-effectOn}
+use Rattle.book.specs.Sound.{Sound}
+use Rattle.book.specs.SoundLaws.{sound-nil, sound-effectOn}
 
 -- ---- rows
 

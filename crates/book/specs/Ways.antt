@@ -9,7 +9,8 @@ use lib.ListN.{length}
 use lib.Dec.{eqb, leb}
 use borrow.Author.Tests.{eqb-true, leb-true, leb-false, le-leb, lt-leb, eqb-false, ne-eqb}
 use Rattle.buffer.specs.Cases.{byTest, eqb-same}
-use Rattle.buffer.specs.Same.{Bytes, same, same-refl, same-eq}
+use Rattle.buffer.specs.Same.{Bytes, same}
+use Rattle.buffer.specs.SameLaws.{same-refl, same-eq}
 use Rattle.book.specs.Book.{Item, Row, Setup, Book, Counts, fresh, Answer, hit, miss, stored, noSpace, invalidated, number, lookup, store}
 use Rattle.book.specs.Book.{invalidate, Event, on, invalidateAll, newEpoch, find, current, updated, effectOn, effect, answerTo}
 use Rattle.book.specs.Rows.{isOldest}

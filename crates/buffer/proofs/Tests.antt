@@ -9,7 +9,8 @@ use lib.Dec.{eqb}
 use lib.Bits.{bitOr, bitXor, or-zero-l, or-add-and, xor-add-and, xor-self, and-le-l, and-le-r}
 use borrow.Author.Tests.{eqb-true, eqb-false, ne-eqb}
 use Rattle.buffer.specs.Cases.{byTest}
-use Rattle.buffer.specs.Same.{Bytes, same, same-append}
+use Rattle.buffer.specs.Same.{Bytes, same}
+use Rattle.buffer.specs.SameLaws.{same-append}
 use Rattle.buffer.specs.Part.{part}
 use Rattle.buffer.specs.PartLaws.{length-part, part-add, drop-part}
 use Rattle.buffer.specs.Step.{part-suc}

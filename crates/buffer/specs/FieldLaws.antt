@@ -8,7 +8,8 @@ use native.Mathlib.Nat.{add-zero, zero-add, mul-assoc, pow-zero, pow-suc, pow-su
 use native.Mathlib.Numerals.{add-one}
 use lib.ListN.{length, getD, drop}
 use lib.Seq.{getD-append-add, drop-cons}
-use Rattle.buffer.specs.Same.{Bytes, same, unequal-same}
+use Rattle.buffer.specs.Same.{Bytes, same}
+use Rattle.buffer.specs.SameLaws.{unequal-same}
 use Rattle.buffer.specs.Part.{part}
 use Rattle.buffer.specs.PartLaws.{getD-part}
 use Rattle.buffer.specs.Field.{le, readLe, Octets}

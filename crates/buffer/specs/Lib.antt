@@ -6,6 +6,7 @@ pub mod Move
 pub mod Part
 pub mod PartLaws
 pub mod Same
+pub mod SameLaws
 pub mod Ascii
 pub mod Step
 pub mod Zero

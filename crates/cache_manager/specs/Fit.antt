@@ -8,7 +8,7 @@ use Rattle.buffer.specs.Same.{Bytes}
 use Rattle.buffer.specs.Field.{read16}
 use Rattle.config.specs.Limits.{maxCommands}
 use Rattle.config.specs.declared.Settings.{Settings}
-use Rattle.format.specs.Runs.{All}
+use Rattle.format.specs.Lists.{All}
 use Rattle.call_record.specs.Record.{Record, ValidCommand}
 use Rattle.call_record.specs.Check.{checkDef, check-fine}
 use Rattle.call_record.specs.declared.Checked.the-variants.{Fine}

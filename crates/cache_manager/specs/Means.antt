@@ -21,7 +21,7 @@ use Rattle.call_record.specs.declared.Checked.the-variants.{Fine, Wrong}
 use Rattle.cursor.specs.At.{recordAt}
 use Rattle.book.specs.Book.{Row, Answer, answers}
 use Rattle.book.specs.Calls.{lookups, ons}
-use Rattle.arena.specs.Sequence.{Held, bookOf}
+use Rattle.arena.specs.Held.{Held, bookOf}
 use Rattle.planning.specs.Ask.{ask, anyLate}
 use Rattle.planning.specs.Outcome.{wanted, outcomes}
 use Rattle.planning.specs.Sent.{Responses}

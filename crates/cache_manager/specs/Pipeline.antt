@@ -19,7 +19,7 @@ use Rattle.call_record.specs.declared.Checked.the-variants.{Fine, Wrong}
 use Rattle.cursor.specs.At.{recordAt}
 use Rattle.book.specs.Book.{Row}
 use Rattle.book.specs.Calls.{afterCall}
-use Rattle.arena.specs.Sequence.{Held, lend, bookOf}
+use Rattle.arena.specs.Held.{Held, lend, bookOf}
 use Rattle.planning.specs.Sent.{Responses}
 use Rattle.planning.specs.Planning.{PlanAnswer, because, done, planOn, callOf}
 use Rattle.sharded_lru.specs.Lent.{setupNow}

@@ -13,7 +13,7 @@ use Rattle.call_record.specs.Record.{Command, Record, transaction}
 use Rattle.book.specs.Book.{Setup, Book, Row, afterAll}
 use Rattle.book.specs.Calls.{lookups, ons}
 use Rattle.book.specs.Lookups.{dry}
-use Rattle.arena.specs.Sequence.{Held, lend, bookOf}
+use Rattle.arena.specs.Held.{Held, lend, bookOf}
 use Rattle.planning.specs.Ask.{ask, anyLate}
 use Rattle.planning.specs.Outcome.{CachingResult, wanted}
 use Rattle.planning.specs.Sent.{responses}

@@ -24,7 +24,7 @@ use Rattle.book.specs.Book.{Row, afterAll}
 use Rattle.book.specs.Calls.{lookups, ons}
 use Rattle.arena.specs.Layout.{encode}
 use Rattle.arena.specs.Decode.{decode}
-use Rattle.arena.specs.Sequence.{Held, lend, bookOf}
+use Rattle.arena.specs.Held.{Held, lend, bookOf}
 use Rattle.planning.specs.Ask.{ask, anyLate}
 use Rattle.planning.specs.Outcome.{wanted}
 use Rattle.sharded_lru.specs.Lent.{setupNow}

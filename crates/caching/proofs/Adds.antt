@@ -3,8 +3,8 @@ use mathlib.Core.Path.{_≡_, sym, ap, _∙_, subst}
 use Prim.Native.Nat.{ℕ}
 use Rattle.buffer.specs.Same.{Bytes}
 use Rattle.book.specs.Book.{Counts, plus, count}
-use Rattle.book.specs.Counts.{Counted}
-use Rattle.arena.specs.Sequence.{Held}
+use Rattle.book.specs.Counted.{Counted}
+use Rattle.arena.specs.Held.{Held}
 use Rattle.statistics.specs.declared.Statistics.{Statistics}
 use Rattle.single_calls.specs.declared.Invalidated.{Invalidated}
 use Rattle.single_calls.specs.declared.LookedUp.{LookedUp}

@@ -28,7 +28,7 @@ use denote.Triple.Statement.{Contract, Triple}
 use denote.Triple.Call.{calls-at}
 use denote.Triple.Spec.{tripleOf}
 use denote.Triple.Clauses.{Clauses, ensured, closing}
-use Rattle.book.specs.Counts.{Counted}
+use Rattle.book.specs.Counted.{Counted}
 use Rattle.statistics.specs.declared.Statistics.{Statistics}
 use Rattle.statistics.specs.Counts.{more}
 use Rattle.statistics.proofs.Statistics as T

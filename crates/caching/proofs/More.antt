@@ -25,8 +25,8 @@ use Rattle.resp3.specs.Decode as resp
 use Rattle.book.specs.Book.{Setup, Row, Counts, Book, Answer, Event, on, invalidateAll, newEpoch, Keyed, plus, allEntries}
 use Rattle.book.specs.Book.{count, effect, put, after, answerTo, afterAll, answers}
 use Rattle.book.specs.Calls.{Call, single, remaining, eventsOf, isRefused, happening, afterCall}
-use Rattle.book.specs.Counts.{Counted}
-use Rattle.arena.specs.Sequence.{Held, lend, bookOf}
+use Rattle.book.specs.Counted.{Counted}
+use Rattle.arena.specs.Held.{Held, lend, bookOf}
 use Rattle.sharded_lru.specs.Lent.{setupNow}
 use Rattle.call_entry.specs.Entered.{noCause}
 use Rattle.call_entry.specs.Laws.{entered-like}

@@ -21,7 +21,7 @@ ghost use lib.ListN.{length};
 ghost use Rattle.config.specs.Config.{checked};
 ghost use Rattle.statistics.specs.Counts.{reading};
 ghost use Rattle.book.specs.Book.{Counts};
-ghost use Rattle.book.specs.Counts.{Counted};
+ghost use Rattle.book.specs.Counted.{Counted};
 ghost use Rattle.single_calls.specs.Setup.{setUp, freshArena};
 ghost use Rattle.statistics.specs.OfBook.{countsOf};
 ghost use Rattle.single_calls.specs.Answers.{answerNumber, FoundIn};

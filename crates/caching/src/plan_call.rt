@@ -6,7 +6,7 @@ use config::Now;
 use statistics::Statistics;
 ghost use mathlib.Core.Path.{_≡_};
 ghost use Prim.Native.Nat.{ℕ};
-ghost use Rattle.book.specs.Counts.{Counted};
+ghost use Rattle.book.specs.Counted.{Counted};
 ghost use Rattle.statistics.specs.OfBook.{countsOf};
 ghost use Rattle.cache_manager.specs.Pipeline.{returnedOf};
 ghost use Rattle.caching.specs.Planned.{refusedReturn, planReturn, planBy, PlanLeft};

@@ -5,7 +5,7 @@ use crate::none_yet;
 use statistics::Statistics;
 ghost use mathlib.Core.Path.{_≡_};
 ghost use Prim.Native.Nat.{ℕ};
-ghost use Rattle.book.specs.Counts.{Counted};
+ghost use Rattle.book.specs.Counted.{Counted};
 ghost use Rattle.statistics.specs.OfBook.{countsOf};
 ghost use Rattle.caching.specs.Added.{AddedLeft};
 ghost use Rattle.caching.specs.Pushed.{pushBy};

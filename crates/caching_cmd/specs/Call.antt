@@ -16,7 +16,7 @@ use Rattle.resp3.specs.Ends.{isValue}
 use Rattle.resp3.specs.Decode as resp
 use Rattle.book.specs.Book.{Setup, Row, Book, Answer}
 use Rattle.book.specs.Calls.{Call, refused, afterCall, replyTo, refusals}
-use Rattle.arena.specs.Sequence.{Held, lend, bookOf}
+use Rattle.arena.specs.Held.{Held, lend, bookOf}
 use Rattle.sharded_lru.specs.Lent.{setupNow}
 use Rattle.call_entry.specs.Entered.{noCause, entered}
 use Rattle.planning.specs.Plan as nodes

@@ -16,7 +16,7 @@ use Rattle.config.specs.Causes.{badPlan, badReply}
 use Rattle.config.specs.Limits.{maxBytes}
 use Rattle.config.specs.declared.CacheMode.{CacheMode}
 use Rattle.config.specs.declared.Settings.{Settings}
-use Rattle.format.specs.Runs.{encAll}
+use Rattle.format.specs.Lists.{encAll}
 use Rattle.resp3.specs.Value.{Value, Values, none, more, encode, Means, nullBytes}
 use Rattle.resp3.specs.Ends.{isValue}
 use Rattle.resp3.specs.Decode as resp
@@ -28,7 +28,7 @@ use Rattle.resp3_element.specs.Meaning.{arrayOf, Inside, Stands, Holds}
 use Rattle.book.specs.Book.{Row}
 use Rattle.arena.specs.Decode.{readArena}
 use Rattle.arena.specs.Layout as layout
-use Rattle.arena.specs.Sequence.{Held, lend, bookOf}
+use Rattle.arena.specs.Held.{Held, lend, bookOf}
 use Rattle.sharded_lru.specs.declared.Admitted.the-variants.{Admits, Refused as NotAdmitted}
 use Rattle.sharded_lru.specs.Lent.{setupNow, Lent}
 use Rattle.sharded_lru.specs.Admit.{admitted, admits}

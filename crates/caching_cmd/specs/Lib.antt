@@ -6,3 +6,4 @@ pub mod Laws
 pub mod Heads
 pub mod Listed
 pub mod Told
+pub mod ToldLaws

@@ -17,7 +17,7 @@ use Rattle.resp3_element.specs.declared.Cursor.{Cursor}
 use Rattle.resp3_element.specs.Meaning.{Stands}
 use Rattle.book.specs.Book.{Row, Book}
 use Rattle.book.specs.Calls.{afterCall}
-use Rattle.arena.specs.Sequence.{Held}
+use Rattle.arena.specs.Held.{Held}
 use Rattle.sharded_lru.specs.Lent.{setupNow, Lent}
 use Rattle.planning.specs.Plan.{Node, planHeadSize}
 use Rattle.plan.specs.Decode.{readPlan, decodePlan}

@@ -10,7 +10,7 @@ use Rattle.config.specs.declared.CheckedConfig.the-variants.{Fine, Refused as B
 use Rattle.resp3.specs.Ends.{isValue}
 use Rattle.book.specs.Book.{Row, Counts}
 use Rattle.arena.specs.Decode.{decode}
-use Rattle.arena.specs.Sequence.{Held}
+use Rattle.arena.specs.Held.{Held}
 use Rattle.sharded_lru.specs.Lent.{setupNow}
 
 -- the number that says that no cause refuses a call

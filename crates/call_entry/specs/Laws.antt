@@ -17,7 +17,7 @@ use Rattle.book.specs.Book.{Setup, Row, afterAll}
 use Rattle.book.specs.Calls.{refused, afterCall, call-defs}
 use Rattle.arena.specs.Decode.{readArena, isImage, decode}
 use Rattle.arena.specs.Image.{decode-exact}
-use Rattle.arena.specs.Sequence.{Held, lend, bookOf}
+use Rattle.arena.specs.Held.{Held, lend, bookOf}
 use Rattle.sharded_lru.specs.Lent.{setupNow}
 use Rattle.sharded_lru.specs.Admit.{admittedBy, admitted}
 use Rattle.sharded_lru.specs.declared.Admitted.the-variants.{Admits, Refused as NotAdmitted}

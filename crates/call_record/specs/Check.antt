@@ -8,7 +8,8 @@ use native.Mathlib.Nat.{le-antisymm}
 use lib.ListN.{length, take, drop, length-append, take-append-drop}
 use lib.Seq.{take-append-add, take-at, take-all, take-take}
 use Rattle.buffer.specs.Same.{Bytes}
-use Rattle.format.specs.Format.{Read, ok, bad, short, Begins}
+use Rattle.format.specs.Format.{Read, ok, bad, short}
+use Rattle.format.specs.Begins.{Begins}
 use Rattle.call_record.specs.Record.{Record, encRecord, ValidRecord}
 use Rattle.call_record.specs.Offset.{IsRecord, EndsEarly, Allowed, FirstAllowed}
 use Rattle.call_record.specs.Formats.{recordF}

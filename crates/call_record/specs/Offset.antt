@@ -6,7 +6,7 @@ use mathlib.Core.List.{_++_}
 use Prim.Native.Nat.{ℕ, _+_, _≤_, _<_}
 use lib.ListN.{length, take}
 use Rattle.buffer.specs.Same.{Bytes}
-use Rattle.format.specs.Format.{Begins}
+use Rattle.format.specs.Begins.{Begins}
 use Rattle.call_record.specs.Record.{Record, encRecord, ValidRecord}
 
 -- s is the bytes of a valid record

@@ -9,7 +9,7 @@ use lib.ListN.{length}
 use Rattle.buffer.specs.Same.{Bytes}
 use Rattle.buffer.specs.Field.{le16, le32, le64}
 use Rattle.config.specs.Limits.{maxCommands, maxArguments, maxArgument}
-use Rattle.format.specs.Runs.{encAll, All, Byte}
+use Rattle.format.specs.Lists.{encAll, All, Byte}
 
 -- ---- what a record holds
 

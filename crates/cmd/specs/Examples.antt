@@ -17,7 +17,8 @@ use Rattle.cursor.specs.Index.{argIdx, text, none}
 use Rattle.command_key.specs.Key.{commandKey}
 use Rattle.decimal.specs.Digits.{digits}
 use Rattle.buffer.specs.Ascii.{ascii}
-use Rattle.cmd.specs.Pack.{texts, blobBytes, blob, packed, packed-pieces}
+use Rattle.cmd.specs.Pack.{texts, blobBytes, blob, packed}
+use Rattle.cmd.specs.PackLaws.{packed-pieces}
 
 -- the arguments of `GET a`
 abbrev args : List Argument

@@ -20,7 +20,8 @@ use Rattle.buffer.specs.Copied.{Copied, copied-start, copied-next, copied-done,
 use Rattle.command_key.specs.Joined.{cutAt, cut-is, cut-length}
 use Rattle.decimal.specs.Digits.{digits}
 use Rattle.decimal.specs.DigitLaws.{count-max}
-use Rattle.cmd.specs.Pack.{sent, texts, head, blob, blobBytes, packed, packed-pieces, pttlTexts, cachingTexts, multiTexts, execTexts}
+use Rattle.cmd.specs.Pack.{sent, texts, head, blob, blobBytes, packed, pttlTexts, cachingTexts, multiTexts, execTexts}
+use Rattle.cmd.specs.PackLaws.{packed-pieces}
 
 -- the bytes all were written at `to`, up to e
 pub record Wrote (d : Bytes) (to : ℕ) (all d₁ : Bytes) (e : ℕ) : Type 0 where

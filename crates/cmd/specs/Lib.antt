@@ -1,3 +1,4 @@
 pub mod Pack
+pub mod PackLaws
 pub mod Laws
 pub mod Examples

@@ -9,7 +9,8 @@ use lib.ListN.{length, take, drop, length-append, length-drop, take-append-drop}
 use lib.Seq.{drop-drop, length-take-le}
 use borrow.Author.Tests.{eqb-true, eqb-false}
 use Rattle.buffer.specs.Cases.{byTest}
-use Rattle.buffer.specs.Same.{Bytes, same, same-append, same-length}
+use Rattle.buffer.specs.Same.{Bytes, same}
+use Rattle.buffer.specs.SameLaws.{same-append, same-length}
 use Rattle.buffer.specs.Part.{part}
 use Rattle.buffer.specs.PartLaws.{length-part}
 use Rattle.cursor.specs.At.{sizeAt, nextAt, argsAt, ArgIn, ArgsIn}

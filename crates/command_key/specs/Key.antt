@@ -7,8 +7,7 @@ use lib.ListN.{length}
 use Rattle.buffer.specs.Same.{Bytes}
 use Rattle.config.specs.Limits.{maxBytes}
 use Rattle.call_record.specs.Record.{Argument, simple}
-use Rattle.cursor.specs.At.{rangeBytes, RangeIn, argsOf, ArgsHere}
-use Rattle.cursor.specs.Index.{own}
+use Rattle.cursor.specs.At.{rangeBytes, RangeIn, argsOf, ArgsHere, own}
 use Rattle.command_key.specs.declared.CommandKey.{CommandKey}
 use Rattle.command_key.specs.declared.CommandKey.the-variants.{Part, Joined, Named}
 

@@ -5,7 +5,8 @@ use mathlib.Core.List.{[], _++_, append-nil}
 use Prim.Native.Nat.{ℕ, _+_, _-_, _≤_}
 use native.Mathlib.Omega.{arith}
 use lib.ListN.{length, length-append}
-use Rattle.buffer.specs.Same.{Bytes, same, same-append, same-length}
+use Rattle.buffer.specs.Same.{Bytes, same}
+use Rattle.buffer.specs.SameLaws.{same-append, same-length}
 use Rattle.buffer.specs.Part.{part, put}
 use Rattle.buffer.specs.PartLaws.{part-all, part-add, length-part}
 use Rattle.cursor.specs.At.{rangeBytes, RangeIn}

@@ -17,6 +17,11 @@ use Rattle.cursor.specs.declared.Range.{Range}
 
 -- ---- arguments
 
+-- the bytes that an argument adds to `cmd.data`: a cursor adds none
+abbrev pub own : Argument → Bytes
+own (simple b) = b
+own cursor = []
+
 -- the bytes from a range's start up to its end
 abbrev pub rangeBytes : Bytes → Range → Bytes
 rangeBytes s g = part s (g .start) (g .end - g .start)

@@ -13,15 +13,10 @@ use Rattle.buffer.specs.Same.{Bytes}
 use Rattle.buffer.specs.Part.{part}
 use Rattle.buffer.specs.PartLaws.{length-part}
 use Rattle.call_record.specs.Record.{Argument, simple, cursor}
-use Rattle.cursor.specs.At.{rangeBytes, RangeIn, sizeAt, nextAt, argAt, argsAt, ArgIn, ArgsIn}
+use Rattle.cursor.specs.At.{rangeBytes, RangeIn, sizeAt, nextAt, argAt, argsAt, ArgIn, ArgsIn, own}
 use Rattle.cursor.specs.Steps.{in-more, args-none, args-more}
 use Rattle.cursor.specs.declared.ArgAt.{ArgAt}
 use Rattle.cursor.specs.declared.ArgAt.the-variants.{Found, NotThere}
-
--- the bytes that an argument adds to `cmd.data`: a cursor adds none
-abbrev pub own : Argument → Bytes
-own (simple b) = b
-own cursor = []
 
 -- bytes, or nothing
 pub data Text : Type 0 where

@@ -11,7 +11,7 @@ use Rattle.buffer.specs.Same.{Bytes}
 use Rattle.buffer.specs.Part.{part}
 use Rattle.buffer.specs.Field.{le, le16, le32, le64, read16, read64}
 use Rattle.buffer.specs.FieldLaws.{length-le}
-use Rattle.format.specs.Runs.{encAll, All}
+use Rattle.format.specs.Lists.{encAll, All}
 use Rattle.call_record.specs.Record.{Argument, simple, cursor, Command, Record, encArgument, encCommand, encRecord, ValidArgument, ValidCommand, ValidRecord}
 use Rattle.call_record.specs.Offset.{IsRecord}
 use Rattle.buffer.specs.Lies.{Lies, lies-left, lies-right, lies-inside, lies-head, lies-part, lies-number}

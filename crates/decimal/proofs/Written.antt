@@ -10,8 +10,8 @@ use Rattle.buffer.specs.Cases.{byTest}
 use Rattle.buffer.specs.Part.{put}
 use Rattle.buffer.specs.PartLaws.{length-put}
 use Rattle.buffer.specs.Step.{put-nil, set-put, put-front}
-use Rattle.decimal.specs.Digits.{digits, digits-one, digits-more, count-one, count-more}
-use Rattle.decimal.specs.DigitLaws.{count-pos}
+use Rattle.decimal.specs.Digits.{digits}
+use Rattle.decimal.specs.DigitLaws.{digits-one, digits-more, count-one, count-more, count-pos}
 
 -- the last k digits of n
 abbrev pub lastDigits : ℕ → ℕ → List ℕ

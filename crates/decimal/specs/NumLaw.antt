@@ -6,8 +6,8 @@ use Prim.Native.Nat.{ℕ, zero, suc, _+_, _*_, _-_, _/_, _%_, _<_, _≤_}
 use native.Mathlib.Omega.{arith}
 use lib.ListN.{length, getD, drop}
 use borrow.Author.Tests.{le-leb}
-use Rattle.decimal.specs.Digits.{digits, digits-one, digits-more, count-one, count-more}
-use Rattle.decimal.specs.DigitLaws.{digits-cases, count-pos}
+use Rattle.decimal.specs.Digits.{digits}
+use Rattle.decimal.specs.DigitLaws.{digits-one, digits-more, count-one, count-more, digits-cases, count-pos}
 use Rattle.buffer.specs.Places.{first, after, getD-drop0}
 use Rattle.decimal.specs.Read.{digitB, crlfB, lead, valAcc, endedDef, finDef, numDef}
 use Rattle.decimal.specs.ReadLaws.{num-zero, num-more, fin-within}

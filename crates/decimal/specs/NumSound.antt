@@ -9,7 +9,8 @@ use lib.ListN.{getD, take, drop, take-append-drop}
 use lib.Seq.{drop-drop}
 use borrow.Author.Tests.{eqb-true}
 use Rattle.buffer.specs.Cases.{byTest}
-use Rattle.decimal.specs.Digits.{digits, digits-one, digits-more}
+use Rattle.decimal.specs.Digits.{digits}
+use Rattle.decimal.specs.DigitLaws.{digits-one, digits-more}
 use Rattle.buffer.specs.Places.{inside, getD-drop0, step}
 use Rattle.decimal.specs.Read.{digitB, crlfB, lead, valAcc, numDef}
 use Rattle.decimal.specs.ReadLaws.{both-true, digit-range, crlf-in, num-says}

@@ -13,7 +13,7 @@ use Rattle.config.specs.Wrap.{wrap}
 use Rattle.config.specs.Limits.{maxMode}
 use Rattle.config.specs.Causes.{badConfig, badShape}
 use Rattle.config.specs.Config.{modeOf, settingsOf}
-use Rattle.format.specs.Runs.{All}
+use Rattle.format.specs.Lists.{All}
 use Rattle.resp3.specs.Decode as resp
 use Rattle.call_record.specs.Record as records
 use Rattle.cursor.specs.At.{recordAt}
@@ -22,11 +22,11 @@ use Rattle.book.specs.Calls as calls
 use Rattle.book.specs.Calls.{Storing, Call, ons, run, onto, shardsOf, NoneCommon}
 use Rattle.book.specs.Residence.{ends, Residence, expiryOf, ServedBy}
 use Rattle.book.specs.Ways.{Way}
-use Rattle.book.specs.Counts.{Counted}
+use Rattle.book.specs.Counted.{Counted}
 use Rattle.book.specs.Trace.{SoundBook}
 use Rattle.arena.specs.Layout.{encode}
 use Rattle.arena.specs.Decode.{decode}
-use Rattle.arena.specs.Sequence.{Held}
+use Rattle.arena.specs.Held.{Held}
 use Rattle.planning.specs.Plan.{Plan}
 use Rattle.plan.specs.Decode.{decodePlan}
 use Rattle.resolving_walk.specs.Commands.{planRead}

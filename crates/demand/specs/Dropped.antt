@@ -8,19 +8,21 @@ use mathlib.Core.Bool.{cond}
 use mathlib.Core.Option.{Option, none, some}
 use mathlib.Core.List.{List, [], _∷_}
 use Rattle.buffer.specs.Cases.{byTest, eqb-same}
-use Rattle.buffer.specs.Same.{Bytes, same-refl}
+use Rattle.buffer.specs.Same.{Bytes}
+use Rattle.buffer.specs.SameLaws.{same-refl}
 use Rattle.config.specs.Wrap.{wrap}
-use Rattle.format.specs.Runs.{All}
+use Rattle.format.specs.Lists.{All}
 use Rattle.book.specs.Book as book
 use Rattle.book.specs.Book.{Setup, Book, Row, Item, Counts, Event, on, invalidateAll, without, valueFor, current, serve, lookupItem, entriesOf}
 use Rattle.book.specs.Book.{keyOf, effectOn, effect, count, put, after, fresh}
 use Rattle.book.specs.Calls.{run}
-use Rattle.book.specs.Counts.{Counted, fit-adds}
+use Rattle.book.specs.Counts.{fit-adds}
+use Rattle.book.specs.Counted.{Counted}
 use Rattle.book.specs.Trace.{SoundBook, sound}
 use Rattle.book.specs.Residence.{itemOf, hasUnder, leaves, ends}
 use Rattle.book.specs.Items.{ifCurrent, turned-defs, item-after}
 use Rattle.call_entry.specs.Entered.{noCause}
-use Rattle.arena.specs.Sequence.{Held, lend}
+use Rattle.arena.specs.Held.{Held, lend}
 use Rattle.demand.specs.Call.{RealCall, Given, setupBy}
 use Rattle.demand.specs.Demand.{heldBy, setup, traceBy}
 use Rattle.demand.specs.CorollaryWords.{droppedBy, droppedIn}

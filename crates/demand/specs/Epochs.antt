@@ -9,7 +9,7 @@ use lib.ListN.{length}
 use Rattle.buffer.specs.Same.{Bytes}
 use Rattle.config.specs.Wrap.{wrap}
 use Rattle.book.specs.Book.{Counts}
-use Rattle.arena.specs.Sequence.{Held}
+use Rattle.arena.specs.Held.{Held}
 use Rattle.call_entry.specs.Entered.{noCause}
 use Rattle.demand.specs.Call as real
 use Rattle.demand.specs.Call.{RealCall, epochTaken, setupBy, afterSetup, step, heldAfter}

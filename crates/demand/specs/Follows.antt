@@ -5,13 +5,13 @@ use Prim.Native.Nat.{ℕ}
 use mathlib.Core.List.{List}
 use lib.ListN.{length}
 use Rattle.buffer.specs.Same.{Bytes}
-use Rattle.format.specs.Runs.{All}
+use Rattle.format.specs.Lists.{All}
 use Rattle.resp3.specs.Ends.{isValue}
 use Rattle.book.specs.Book.{Counts, fresh}
-use Rattle.book.specs.Counts.{Counted}
+use Rattle.book.specs.Counted.{Counted}
 use Rattle.arena.specs.Tests.{WellFormed}
 use Rattle.arena.specs.Image.{decode-exact}
-use Rattle.arena.specs.Sequence.{Held, lend}
+use Rattle.arena.specs.Held.{Held, lend}
 use Rattle.call_entry.specs.Entered.{noCause}
 use Rattle.demand.specs.Call.{RealCall, Given, Stepped, setupBy}
 use Rattle.demand.specs.Demand.{heldBy, setup, bookBy, CallIn, returned, Demand, DemandThree}

@@ -13,9 +13,10 @@ use Rattle.book.specs.Book as book
 use Rattle.book.specs.Book.{Setup, Book, Answer, Keyed, on, answers, answerTo, effect, after, put, afterAll}
 use Rattle.book.specs.Calls as calls
 use Rattle.book.specs.Calls.{Call, Wanted, Storing, ons, lookups, stores, invalidations, afterCall, call-defs}
-use Rattle.book.specs.Counts.{Counted, store-counts}
+use Rattle.book.specs.Counts.{store-counts}
+use Rattle.book.specs.Counted.{Counted}
 use Rattle.arena.specs.Layout.{encode}
-use Rattle.arena.specs.Sequence.{lend}
+use Rattle.arena.specs.Held.{lend}
 use Rattle.plan.specs.Decode.{decodePlan}
 use Rattle.resolving.specs.Pushes.{pushed}
 use Rattle.single_calls.specs.AsCall.{callOf}

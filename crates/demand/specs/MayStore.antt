@@ -7,14 +7,14 @@ use lib.ListN.{length}
 use Rattle.buffer.specs.Same.{Bytes}
 use Rattle.config.specs.Config.{checked}
 use Rattle.resp3.specs.Ends.{isValue}
-use Rattle.format.specs.Runs.{All}
+use Rattle.format.specs.Lists.{All}
 use Rattle.book.specs.Book as book
 use Rattle.book.specs.Calls as calls
 use Rattle.book.specs.Calls.{Call, Wanted, ons, lookups, invalidations, eventsOf}
 use Rattle.book.specs.Storable.{StorableEvents, StorableCalls}
 use Rattle.arena.specs.Decode.{mayStore}
-use Rattle.single_calls.specs.AsCall.{call-storable}
-use Rattle.caching_cmd.specs.Told.{told-storable}
+use Rattle.single_calls.specs.AsCallLaws.{call-storable}
+use Rattle.caching_cmd.specs.ToldLaws.{told-storable}
 use Rattle.demand.specs.Call.{RealCall, planning, resolving, push, lookup, store, invalidate, newEpoch, Given, bookCall, bookCalls}
 use Rattle.demand.specs.BookCalls.{of-push, of-planning, of-fine}
 

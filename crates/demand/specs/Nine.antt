@@ -16,21 +16,21 @@ use Rattle.buffer.specs.Field.{Octets}
 use Rattle.config.specs.Limits.{maxKey, maxCommandKey, maxBytes}
 use Rattle.config.specs.Causes.{badConfig, badArena}
 use Rattle.config.specs.Config.{refused, settingsOf}
-use Rattle.format.specs.Runs.{All}
+use Rattle.format.specs.Lists.{All}
 use Rattle.resp3.specs.Ends.{isValue}
 use Rattle.resp3.specs.Law.{value-law}
 use Rattle.book.specs.Book as book
 use Rattle.book.specs.Book.{Setup, Row, Item, Entry, Keyed, plus, fresh, on}
 use Rattle.book.specs.Calls.{Call, single, afterCalls}
 use Rattle.book.specs.Each.{Each}
-use Rattle.book.specs.Counts.{Counted}
+use Rattle.book.specs.Counted.{Counted}
 use Rattle.book.specs.Storable.{StorableEntries}
 use Rattle.arena.specs.Decode.{mayStore, decode}
 use Rattle.arena.specs.Tests.{Fits, every-yes}
 use Rattle.arena.specs.Layout.{encode}
 use Rattle.arena.specs.Image.{Image, decode-exact}
 use Rattle.arena.specs.Octets.{EventOctets, arena-octets}
-use Rattle.arena.specs.Sequence.{Held, lend, bookOf}
+use Rattle.arena.specs.Held.{Held, lend, bookOf}
 use Rattle.arena.specs.Stores.{storing}
 use Rattle.arena.specs.Reach.{building, building-all, singles, not-yet, reached}
 use Rattle.call_entry.specs.Entered.{noCause, onRows, entered}

@@ -9,10 +9,10 @@ use Rattle.config.specs.Config.{refused}
 use Rattle.resp3.specs.Ends.{isValue}
 use Rattle.book.specs.Book.{Setup, Book}
 use Rattle.book.specs.Calls.{afterCall}
-use Rattle.book.specs.Counts.{Counted}
+use Rattle.book.specs.Counted.{Counted}
 use Rattle.arena.specs.Tests.{WellFormed}
 use Rattle.arena.specs.Image.{Sized}
-use Rattle.arena.specs.Sequence.{Held, lend}
+use Rattle.arena.specs.Held.{Held, lend}
 use Rattle.demand.specs.Call.{RealCall, planning, resolving, push, lookup, store, invalidate, newEpoch, Return, Stepped, withArena, step, setupWith}
 use Rattle.demand.specs.Call.{bookCall}
 use Rattle.demand.specs.Replies.{withNext, respond, returnFor}

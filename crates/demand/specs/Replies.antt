@@ -25,7 +25,8 @@ use Rattle.book.specs.Book.{Setup, Row, Book, Answer, Keyed}
 use Rattle.book.specs.Calls as calls
 use Rattle.book.specs.Calls.{Call, replyTo, afterCall}
 use Rattle.arena.specs.Place.{arenaPlace}
-use Rattle.arena.specs.Sequence.{Held, outcomeOf}
+use Rattle.arena.specs.Sequence.{outcomeOf}
+use Rattle.arena.specs.Held.{Held}
 use Rattle.planning.specs.Ask.{ask, anyLate}
 use Rattle.planning.specs.Planning.{Planned, plannedFrom}
 use Rattle.planning.specs.Plan as nodes

@@ -33,7 +33,7 @@ use Rattle.plan.specs.Decode.{decodePlan}
 use Rattle.resolving_walk.specs.Commands.{planRead}
 use Rattle.resolving.specs.Resolve.{Resolved, cause7, answered, resolve}
 use Rattle.resolving.specs.Result.{resultBytes}
-use Rattle.arena.specs.Sequence.{Held}
+use Rattle.arena.specs.Held.{Held}
 use Rattle.call_entry.specs.Entered.{noCause}
 use Rattle.caching.specs.declared.resolve_call.RedisCacheResolve.{RedisCacheResolve}
 use Rattle.single_calls.specs.AsCall as singles
@@ -42,8 +42,7 @@ use Rattle.caching_cmd.specs.Told.{toldBy}
 use Rattle.demand.specs.Call as real
 use Rattle.demand.specs.Call.{RealCall, setupBy, step, ifFine, bookCall, bookCalls}
 use Rattle.demand.specs.Demand.{setup, told, heldBy, CallIn, returned, bookBefore}
-use Rattle.demand.specs.Replies.{Reply, respond, returnFor, planReply, recordReply, planningReturn, resultReply, resolvedReply, planLent}
-use Rattle.demand.specs.Replies.{resolvingReturn}
+use Rattle.demand.specs.Replies.{Reply, respond, returnFor, planReply, recordReply, planningReturn, resultReply, resolvedReply, planLent, resolvingReturn}
 use Rattle.demand.specs.CorollaryWords.{reportedBy, lackingIn}
 use Rattle.demand.specs.Corollaries.{response}
 use Rattle.demand.specs.Laws.{setup-proper}

@@ -2,7 +2,7 @@
 use mathlib.Core.Path.{_≡_, refl, ap}
 use Prim.Native.Nat.{ℕ}
 use mathlib.Core.List.{List, [], _∷_, _++_}
-use Rattle.format.specs.Runs.{All}
+use Rattle.format.specs.Lists.{All}
 use Rattle.book.specs.Book.{Setup, Book}
 use Rattle.book.specs.Calls.{Call, afterCall, afterCalls}
 use Rattle.demand.specs.Call.{RealCall, Given, bookCall, bookCalls}

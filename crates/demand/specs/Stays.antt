@@ -8,13 +8,13 @@ use mathlib.Core.Bool.{true, false, false≢true}
 use mathlib.Core.Option.{Option, none, some}
 use mathlib.Core.List.{List, [], _∷_, _++_}
 use Rattle.buffer.specs.Cases.{byTest}
-use Rattle.buffer.specs.Same.{Bytes, same, same-refl, same-eq}
+use Rattle.buffer.specs.Same.{Bytes, same}
+use Rattle.buffer.specs.SameLaws.{same-refl, same-eq}
 use Rattle.book.specs.Book.{Setup, Book, Answer, hit, miss, stored, noSpace, invalidated, number, lookup, store, invalidate, Event, on, invalidateAll, newEpoch}
 use Rattle.book.specs.Book.{answerTo}
 use Rattle.book.specs.Calls.{run}
 use Rattle.book.specs.Residence as book
-use Rattle.book.specs.Residence.{itemOf, hasUnder, ends, KeptStore, isStored, keptBy, consIf, keptIn, opening, Lasts, latestOf, laterStores}
-use Rattle.book.specs.Residence.{storesOf}
+use Rattle.book.specs.Residence.{itemOf, hasUnder, ends, KeptStore, isStored, keptBy, consIf, keptIn, opening, Lasts, latestOf, laterStores, storesOf}
 use Rattle.book.specs.Residence.{latestUnder, expiryOf}
 use Rattle.demand.specs.Residence.{Kept, Runs, begins, stores, passes, ServedBy}
 

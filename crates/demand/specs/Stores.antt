@@ -10,24 +10,26 @@ use lib.Dec.{eqb, ltb}
 use lib.ListN.{length}
 use borrow.Author.Tests.{eqb-true, ltb-true, le-ltb}
 use Rattle.buffer.specs.Cases.{byTest, eqb-same}
-use Rattle.buffer.specs.Same.{Bytes, same-refl}
+use Rattle.buffer.specs.Same.{Bytes}
+use Rattle.buffer.specs.SameLaws.{same-refl}
 use Rattle.config.specs.Limits.{maxMode}
 use Rattle.config.specs.Causes.{noSpace}
 use Rattle.config.specs.Config.{refused}
-use Rattle.format.specs.Runs.{All}
+use Rattle.format.specs.Lists.{All}
 use Rattle.resp3.specs.Ends.{isValue}
 use Rattle.book.specs.Book as book
 use Rattle.book.specs.Book.{Setup, Book, Row, Item, Counts, Keyed, on, newItem, updated, valueFor, fits, ifFits, keyOf, effectOn, effect, fresh}
 use Rattle.book.specs.Book.{answerTo, answers, after, afterAll}
 use Rattle.book.specs.Calls.{Call, ons, afterCall, replyTo, call-defs}
-use Rattle.book.specs.Counts.{Counted}
+use Rattle.book.specs.Counted.{Counted}
 use Rattle.book.specs.Trace.{SoundBook}
 use Rattle.book.specs.Rows.{value-set}
 use Rattle.book.specs.Residence.{itemOf, isStored}
 use Rattle.book.specs.Items.{storedItem, turned-defs, item-after}
 use Rattle.book.specs.Lookups.{answerFrom, Serving, serving, lookup-answer}
 use Rattle.book.specs.Demand3.{shardAfter}
-use Rattle.arena.specs.Sequence.{Held, outcomeOf}
+use Rattle.arena.specs.Sequence.{outcomeOf}
+use Rattle.arena.specs.Held.{Held}
 use Rattle.single_calls.specs.Single as one
 use Rattle.call_entry.specs.Entered.{noCause}
 use Rattle.single_calls.specs.AsCall.{callOf, outcomeNumber, outcomeValue}

@@ -19,7 +19,7 @@ use Rattle.config.specs.Config.{checked}
 use Rattle.config.specs.declared.Settings.{Settings}
 use Rattle.config.specs.declared.CheckedConfig.{CheckedConfig}
 use Rattle.config.specs.declared.CheckedConfig.the-variants.{Fine, Refused as BadConfig}
-use Rattle.format.specs.Runs.{All}
+use Rattle.format.specs.Lists.{All}
 use Rattle.resp3.specs.Ends.{isValue}
 use Rattle.call_record.specs.Check.{checkDef}
 use Rattle.call_record.specs.declared.Checked.{Checked}
@@ -28,10 +28,11 @@ use Rattle.cursor.specs.At.{recordAt}
 use Rattle.book.specs.Book as book
 use Rattle.book.specs.Book.{Setup, Book, Counts, Answer, Keyed}
 use Rattle.book.specs.Calls.{Call, afterCall, replyTo, afterCalls, replies}
-use Rattle.book.specs.Counts.{Counted}
+use Rattle.book.specs.Counted.{Counted}
 use Rattle.book.specs.Tally.{hitsIn, missesIn, tallyReply, tallyAll, hits-tallied, misses-tallied}
 use Rattle.arena.specs.Tests.{WellFormed}
-use Rattle.arena.specs.Sequence.{Held, lend, outcomeOf}
+use Rattle.arena.specs.Sequence.{outcomeOf}
+use Rattle.arena.specs.Held.{Held, lend}
 use Rattle.planning.specs.Ask.{anyLate}
 use Rattle.single_calls.specs.Single as one
 use Rattle.call_entry.specs.Entered.{noCause}

@@ -5,7 +5,7 @@ use Prim.Native.Nat.{ℕ}
 use native.Mathlib.Omega.{arith}
 use mathlib.Core.List.{List, [], _∷_}
 use lib.ListN.{length}
-use Rattle.format.specs.Runs.{All}
+use Rattle.format.specs.Lists.{All}
 use Rattle.book.specs.Book.{Setup, Keyed, on, invalidateAll, keyOf}
 use Rattle.book.specs.Calls as calls
 use Rattle.book.specs.Calls.{Call, invalidations, ons, eventsOf, homes, these, allShards, shardsOf, NotAmong, NoneCommon}

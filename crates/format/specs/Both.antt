@@ -5,7 +5,8 @@ use Prim.Native.Nat.{ℕ, _+_}
 use native.Mathlib.Omega.{arith}
 use lib.ListN.{length, take, length-append}
 use lib.Seq.{take-append-add}
-use Rattle.format.specs.Format.{Read, ok, bad, short, Begins, Stuck, Is, Format}
+use Rattle.format.specs.Format.{Read, ok, bad, short, Stuck, Is, Format}
+use Rattle.format.specs.Begins.{Begins}
 
 -- ---- one after the other, the second by the value of the first
 

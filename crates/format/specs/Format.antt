@@ -7,19 +7,13 @@ use Prim.Native.Nat.{ℕ, _+_, _<_}
 use native.Mathlib.Omega.{arith}
 use lib.ListN.{length, take}
 use Rattle.buffer.specs.Cases.{byTest}
+use Rattle.format.specs.Begins.{Begins}
 
 -- a value and what follows it; or the first byte that no value allows; or the bytes end before the value does
 pub data Read (A : Type 0) : Type 0 where
   ok : A → List ℕ → Read A
   bad : ℕ → Read A
   short : Read A
-
--- s is the beginning of a valid value's bytes
-pub record Begins {A : Type 0} (enc : A → List ℕ) (valid : A → Type 0) (s : List ℕ) : Type 0 where
-  pub value : A
-  pub rest : List ℕ
-  pub fine : valid value
-  pub bytes : enc value ≡ s ++ rest
 
 -- o is the first byte at which no valid value's bytes go on as s does: whatever follows it, the reading stops there
 pub record Stuck {A : Type 0} (read : List ℕ → Read A) (enc : A → List ℕ) (valid : A → Type 0) (s : List ℕ) (o : ℕ) : Type 0 where

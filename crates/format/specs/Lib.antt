@@ -1,7 +1,9 @@
 pub mod Format
+pub mod Begins
 pub mod Both
 pub mod Map
 pub mod Runs
+pub mod Lists
 pub mod Numbers
 pub mod Words
 pub mod Ends

@@ -4,7 +4,8 @@ use mathlib.Core.List.{List, [], _++_}
 use Prim.Native.Nat.{ℕ}
 use native.Mathlib.Omega.{arith}
 use lib.ListN.{take}
-use Rattle.format.specs.Format.{Read, ok, bad, short, Begins, Stuck, Is, Format}
+use Rattle.format.specs.Format.{Read, ok, bad, short, Stuck, Is, Format}
+use Rattle.format.specs.Begins.{Begins}
 
 -- ---- the same bytes as other values
 

@@ -1,25 +1,14 @@
 -- Formats of runs: n of a kind, n bytes. Assumes nothing.
 use mathlib.Core.Path.{_≡_, refl, sym, ap}
-use mathlib.Core.Bool.{Bool}
 use mathlib.Core.List.{List, [], _∷_, _++_}
-use Prim.Native.Nat.{ℕ, zero, suc, _<_}
+use Prim.Native.Nat.{ℕ, zero, suc}
 use native.Mathlib.Omega.{arith}
-use lib.Dec.{ltb}
 use lib.ListN.{length}
 use borrow.Author.Tests.{lt-ltb, ltb-true}
 use Rattle.format.specs.Format.{Format, noneF, byteF}
 use Rattle.format.specs.Both.{bothF}
 use Rattle.format.specs.Map.{From, mapF}
-
--- the bytes of a list of things, one after the other
-abbrev pub encAll : {A : Type 0} → (A → List ℕ) → List A → List ℕ
-encAll enc [] = []
-encAll enc (x ∷ xs) = enc x ++ encAll enc xs
-
--- everything in a list is good
-abbrev pub All : {A : Type 0} → (A → Type 0) → List A → Type 0
-All good [] = Unit {0}
-All good (x ∷ xs) = good x × All good xs
+use Rattle.format.specs.Lists.{encAll, All, isByte, Byte}
 
 -- so is everything in both lists together
 pub all-append : {A : Type 0} (good : A → Type 0) (xs ys : List A) → All good xs → All good ys → All good (xs ++ ys)
@@ -84,15 +73,6 @@ module _ {A : Type 0} (f : Format A) where
       (λ l h. sym (rep n .enc-is l h))
       (λ l h. rep n .valid-is l h)
       (λ l h. record { value = l; fine = rep n .is-valid l h; same = refl })
-
--- ---- bytes
-
--- below 256
-abbrev pub isByte : ℕ → Bool
-isByte x = ltb x 256
-
-abbrev pub Byte : ℕ → Type 0
-Byte x = x < 256
 
 -- any byte
 abbrev pub anyF : Format ℕ

@@ -13,7 +13,8 @@ use Rattle.buffer.specs.Field.{Octets}
 use Rattle.format.specs.Format.{Format, noneF, byteF}
 use Rattle.format.specs.Both.{bothF}
 use Rattle.format.specs.Map.{From, mapF}
-use Rattle.format.specs.Runs.{isByte, anyF, bytesF, manyF, rep}
+use Rattle.format.specs.Runs.{anyF, bytesF, manyF, rep}
+use Rattle.format.specs.Lists.{isByte}
 use Rattle.format.specs.Numbers.{digitB, digit-yes, digit-is, digit-zero, digitF, Digits, restOf, upto, numberF}
 use Rattle.format.specs.Ends.{endAt, Got, Some, at-some, both-go, both-wrong, map-end, byte-got, byte-out}
 use Rattle.format.specs.declared.End.{End}

@@ -10,7 +10,8 @@ use Rattle.buffer.specs.Field.{le}
 use Rattle.format.specs.Format.{Format, noneF, byteF}
 use Rattle.format.specs.Both.{bothF}
 use Rattle.format.specs.Map.{mapF}
-use Rattle.format.specs.Runs.{encAll, All, Byte, bytesF, manyF}
+use Rattle.format.specs.Runs.{bytesF, manyF}
+use Rattle.format.specs.Lists.{encAll, All, Byte}
 use Rattle.format.specs.Numbers.{numberF}
 
 -- a byte that is x

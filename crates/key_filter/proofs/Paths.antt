@@ -15,7 +15,7 @@ use Rattle.buffer.specs.Cases.{byTest}
 use Rattle.buffer.specs.Same.{Bytes}
 use Rattle.config.specs.declared.Settings.{Settings}
 use Rattle.book.specs.Book.{Item, Row}
-use Rattle.arena.specs.Sizes.{setupOf}
+use Rattle.arena.specs.SetupOf.{setupOf}
 use Rattle.sharded_lru.specs.Lent.{Lent}
 use Rattle.key_filter.specs.Filter.{bitOf, isSet, setBit, mayHold, Grows, Marked, Filters}
 use Rattle.key_filter.specs.Laws.{set-same, set-grows, marked-grows}

@@ -10,7 +10,7 @@ use Rattle.config.specs.declared.Settings.{Settings}
 use Rattle.siphash.specs.Shard.{shardOf}
 use Rattle.book.specs.Book.{Row, lookup, on, keyOf, find, lookupItem, effectOn, setRow}
 use Rattle.book.specs.Trace.{row-here, row-elsewhere}
-use Rattle.arena.specs.Sizes.{setupOf}
+use Rattle.arena.specs.SetupOf.{setupOf}
 use Rattle.shard_lookup.specs.Looked.{Told}
 use Rattle.shard_lookup.specs.declared.Looked.the-variants.{Miss}
 use Rattle.sharded_lru.specs.Lent.{setupNow, Lent, effectIn, rowsAfter}

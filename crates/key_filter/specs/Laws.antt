@@ -14,11 +14,13 @@ use lib.ListN.{length, getD, set, length-set}
 use lib.Seq.{getD-set-same, getD-set-other}
 use borrow.Author.Tests.{eqb-true, eqb-false, eq-eqb, ltb-true, le-ltb}
 use Rattle.buffer.specs.Cases.{byTest}
-use Rattle.buffer.specs.Same.{Bytes, same, same-eq}
+use Rattle.buffer.specs.Same.{Bytes, same}
+use Rattle.buffer.specs.SameLaws.{same-eq}
 use Rattle.config.specs.declared.Settings.{Settings}
 use Rattle.siphash.specs.Shard.{shardOf}
 use Rattle.book.specs.Book.{Setup, Row, Keyed, lookup, store, invalidate, keyOf, on, find, setRow}
-use Rattle.book.specs.Each.{Brings, each-effectOn}
+use Rattle.book.specs.Each.{Brings}
+use Rattle.book.specs.EachLaws.{each-effectOn}
 use Rattle.book.specs.Trace.{row-here, row-elsewhere}
 use Rattle.sharded_lru.specs.Lent.{setupNow, Lent, Arena, effectIn, rowsAfter}
 use Rattle.sharded_lru.specs.Laws.{lent-same}

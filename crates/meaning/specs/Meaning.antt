@@ -26,7 +26,7 @@ use Rattle.config.specs.Limits.{maxBytes, maxDepth}
 use Rattle.config.specs.Causes.{badConfig, tooLong, badReply, badArena, badPlan, noSpace}
 use Rattle.config.specs.Config.{refused, settingsOf}
 use Rattle.config.specs.declared.Settings.{Settings}
-use Rattle.format.specs.Runs.{All}
+use Rattle.format.specs.Lists.{All}
 use Rattle.resp3.specs.Value.{Value, Values, blobString, simpleError, number, null, blobError, array, push, none as noValues, more, Means, IsValue}
 use Rattle.resp3.specs.Value.{encode as valueBytes, encs}
 use Rattle.resp3_element.specs.declared.Integer.the-variants.{Is}
@@ -47,7 +47,7 @@ use Rattle.book.specs.Calls as pushes
 use Rattle.book.specs.Calls.{Storing, Call, resolving7, single, stores, ons, isRefused, remaining, afterCall}
 use Rattle.arena.specs.Decode.{decode}
 use Rattle.arena.specs.Place.{arenaPlace}
-use Rattle.arena.specs.Sequence.{Held, bookOf}
+use Rattle.arena.specs.Held.{Held, bookOf}
 use Rattle.sharded_lru.specs.Lent.{setupNow}
 use Rattle.planning.specs.Plan.{Node, Plan, encPlan}
 use Rattle.planning.specs.Rules.{GoodNode, ordered, GoodPlan, IsPlan}

@@ -7,7 +7,7 @@ use mathlib.Core.List.{List, [], _∷_}
 use Prim.Native.Nat.{ℕ, zero, suc}
 use lib.ListN.{length, drop}
 use Rattle.buffer.specs.Same.{Bytes}
-use Rattle.format.specs.Runs.{All}
+use Rattle.format.specs.Lists.{All}
 use Rattle.resp3.specs.Value.{Values, more, count, Means, IsValue}
 use Rattle.resp3.specs.Decode as resp
 use Rattle.resp3.specs.Law as values

@@ -20,7 +20,7 @@ use Rattle.call_record.specs.Record.{Record}
 use Rattle.call_record.specs.Offset.{FirstAllowed}
 use Rattle.call_record.specs.Check.{record-one}
 use Rattle.book.specs.Book.{Row, Counts, Keyed}
-use Rattle.arena.specs.Sequence.{Held}
+use Rattle.arena.specs.Held.{Held}
 use Rattle.sharded_lru.specs.Lent.{setupNow}
 use Rattle.planning.specs.Plan.{Plan, encPlan}
 use Rattle.planning.specs.Rules.{GoodPlan}

@@ -13,7 +13,7 @@ use Rattle.call_record.specs.Record.{Record}
 use Rattle.book.specs.Book.{Setup, Row, Answer, answers}
 use Rattle.book.specs.Calls.{Storing, Call, planning, resolving, resolving7, push, pushAll, single, takeEpoch, refused, lookups, stores, ons}
 use Rattle.book.specs.Calls.{isRefused, remaining}
-use Rattle.arena.specs.Sequence.{Held, bookOf}
+use Rattle.arena.specs.Held.{Held, bookOf}
 use Rattle.planning.specs.Ask.{ask, anyLate}
 use Rattle.planning.specs.Outcome.{wanted}
 use Rattle.planning.specs.Planning.{Planned, plannedFrom, short, planAnswer, planOn}

@@ -15,7 +15,7 @@ use Rattle.config.specs.declared.Settings.{Settings}
 use Rattle.call_record.specs.Record.{Record}
 use Rattle.book.specs.Book.{Setup, Row, Answer, answers}
 use Rattle.book.specs.Calls.{Wanted, Storing, Call, planning, resolving, resolving7, refused, lookups, ons, replyTo, afterCall}
-use Rattle.arena.specs.Sequence.{Held, lend, bookOf}
+use Rattle.arena.specs.Held.{Held, lend, bookOf}
 use Rattle.planning.specs.Ask.{ask, anyLate}
 use Rattle.planning.specs.Outcome.{wanted}
 use Rattle.planning.specs.Planning.{Planned, plannedFrom, callOf}

@@ -8,12 +8,13 @@ use mathlib.Core.List.{List, [], _∷_}
 use Prim.Native.Nat.{ℕ}
 use lib.ListN.{length}
 use borrow.Author.Tests.{leb-true, le-leb}
-use Rattle.buffer.specs.Same.{Bytes, same, same-refl, same-eq}
+use Rattle.buffer.specs.Same.{Bytes, same}
+use Rattle.buffer.specs.SameLaws.{same-refl, same-eq}
 use Rattle.config.specs.Causes.{noSpace}
 use Rattle.config.specs.Config.{refused, settingsOf, checked}
 use Rattle.config.specs.Laws.{passed}
 use Rattle.config.specs.declared.CheckedConfig.the-variants.{Fine}
-use Rattle.format.specs.Runs.{All}
+use Rattle.format.specs.Lists.{All}
 use Rattle.siphash.specs.Sip.{sipHash13}
 use Rattle.resp3.specs.Ends.{isValue}
 use Rattle.resp3.specs.Law as values

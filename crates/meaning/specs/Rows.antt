@@ -5,7 +5,7 @@ use Prim.Native.Nat.{ℕ, _^_, _≤_, _<_}
 use lib.ListN.{length}
 use Rattle.buffer.specs.Same.{Bytes}
 use Rattle.config.specs.Limits.{maxKey, maxCommandKey}
-use Rattle.format.specs.Runs.{All}
+use Rattle.format.specs.Lists.{All}
 use Rattle.resp3.specs.Value.{IsValue}
 use Rattle.book.specs.Book.{Setup, Entry, Item, Row}
 use Rattle.book.specs.Sound.{Sound}

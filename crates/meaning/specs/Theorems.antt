@@ -29,7 +29,8 @@ use Rattle.book.specs.Book.{Setup, Row, Book, Counts, Keyed, lookup, store, inv
 use Rattle.book.specs.Calls.{single, afterCall, replyTo, ons, call-defs}
 use Rattle.arena.specs.Decode.{decode}
 use Rattle.arena.specs.Place.{arenaPlace}
-use Rattle.arena.specs.Sequence.{Held, lend, bookOf, outcomeOf}
+use Rattle.arena.specs.Sequence.{outcomeOf}
+use Rattle.arena.specs.Held.{Held, lend, bookOf}
 use Rattle.sharded_lru.specs.Lent.{setupNow}
 use Rattle.call_entry.specs.Entered.{holding, onRows, entered}
 use Rattle.planning.specs.Plan as nodes

@@ -11,12 +11,13 @@ use lib.ListN.{length, drop, length-drop}
 use lib.Dec.{eqb}
 use borrow.Author.Tests.{leb-true, le-leb, ltb-true, lt-ltb, ne-eqb}
 use Rattle.buffer.specs.Cases.{byTest}
-use Rattle.buffer.specs.Same.{Bytes, same-refl, same-eq}
+use Rattle.buffer.specs.Same.{Bytes}
+use Rattle.buffer.specs.SameLaws.{same-refl, same-eq}
 use Rattle.buffer.specs.Field.{le32, read32, read64}
 use Rattle.buffer.specs.FieldLaws.{length-le, read-past, read-here}
 use Rattle.buffer.specs.Lists.{drop-past}
 use Rattle.config.specs.Limits.{maxCommands}
-use Rattle.format.specs.Runs.{encAll, All}
+use Rattle.format.specs.Lists.{encAll, All}
 use Rattle.resp3.specs.Value.{encode, nullBytes}
 use Rattle.resp3.specs.Law.{value-law}
 use Rattle.arena.specs.Tests.{Trues, every-yes, yes-every}

@@ -11,7 +11,7 @@ use lib.Dec.{eqb, ltb}
 use Rattle.buffer.specs.Cases.{byTest}
 use Rattle.buffer.specs.Same.{Bytes}
 use Rattle.buffer.specs.Field.{Octets}
-use Rattle.format.specs.Runs.{encAll, All}
+use Rattle.format.specs.Lists.{encAll, All}
 use Rattle.planning.specs.Plan.{Node, encNode, servedKind, allServedKind, severalKind, waitingKind, endKind}
 use Rattle.planning.specs.Rules.{GoodNode}
 use Rattle.plan.specs.declared.NodeHead.{NodeHead}

@@ -10,13 +10,14 @@ use lib.Seq.{drop-cons}
 use lib.Dec.{eqb}
 use borrow.Author.Tests.{leb-true, le-leb}
 use Rattle.buffer.specs.Cases.{byTest}
-use Rattle.buffer.specs.Same.{Bytes, same, same-eq}
+use Rattle.buffer.specs.Same.{Bytes, same}
+use Rattle.buffer.specs.SameLaws.{same-eq}
 use Rattle.buffer.specs.Field.{le32, read32, Octets}
 use Rattle.buffer.specs.FieldLaws.{length-le}
 use Rattle.buffer.specs.Part.{part}
 use Rattle.buffer.specs.PartLaws.{drop-part}
 use Rattle.config.specs.Limits.{maxCommands}
-use Rattle.format.specs.Runs.{encAll}
+use Rattle.format.specs.Lists.{encAll}
 use Rattle.resp3.specs.Value.{encode, nullBytes}
 use Rattle.planning.specs.Plan.{encNode, encPlan, planHeadSize, nullStart}
 use Rattle.planning.specs.Rules.{valuesThen, ordered, IsPlan}

@@ -8,7 +8,7 @@ use lib.ListN.{length, drop}
 use Rattle.buffer.specs.Same.{Bytes}
 use Rattle.config.specs.Limits.{maxBytes}
 use Rattle.config.specs.declared.Settings.{Settings}
-use Rattle.format.specs.Runs.{All}
+use Rattle.format.specs.Lists.{All}
 use Rattle.call_record.specs.Record.{Record, transaction, ValidRecord, encRecord}
 use Rattle.book.specs.Book.{Answer}
 use Rattle.book.specs.Calls.{Missing, missingUntil}

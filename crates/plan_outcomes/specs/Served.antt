@@ -11,15 +11,15 @@ use Rattle.buffer.specs.Cases.{byTest}
 use Rattle.buffer.specs.Same.{Bytes, same}
 use Rattle.config.specs.Limits.{maxBytes}
 use Rattle.config.specs.declared.Settings.{Settings}
-use Rattle.format.specs.Runs.{All}
+use Rattle.format.specs.Lists.{All}
 use Rattle.resp3.specs.Value.{IsValue}
 use Rattle.resp3.specs.Ends.{isValue}
 use Rattle.resp3.specs.Law.{value-law}
 use Rattle.call_record.specs.Record.{Record, encRecord, ValidRecord, transaction}
-use Rattle.book.specs.Book.{Setup, Entry, Item, Row, Book, Answer, find, without, valueFor, current, serve, lookupItem, keyOf, effectOn}
-use Rattle.book.specs.Book.{effect, answerTo}
+use Rattle.book.specs.Book.{Setup, Entry, Item, Row, Book, Answer, find, without, valueFor, current, serve, lookupItem, keyOf, effectOn, effect, answerTo}
 use Rattle.book.specs.Calls.{Wanted}
-use Rattle.book.specs.Each.{Each, each-find}
+use Rattle.book.specs.Each.{Each}
+use Rattle.book.specs.EachLaws.{each-find}
 use Rattle.book.specs.Lookups.{dry, planned}
 use Rattle.book.specs.Storable.{StorableEntries, StorableItem}
 use Rattle.arena.specs.Decode.{mayStore}

@@ -8,7 +8,7 @@ use native.Mathlib.Numerals.{add-one}
 use lib.ListN.{length, length-append}
 use Rattle.buffer.specs.Same.{Bytes}
 use Rattle.buffer.specs.Field.{le, le32, le64}
-use Rattle.format.specs.Runs.{encAll}
+use Rattle.format.specs.Lists.{encAll}
 use Rattle.resp3.specs.Value.{encode, nullBytes}
 use Rattle.cursor.specs.At.{rangeBytes, RangeIn, nextAt, ArgsIn}
 use Rattle.cursor.specs.declared.Range.{Range}

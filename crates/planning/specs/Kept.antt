@@ -10,7 +10,7 @@ use Rattle.buffer.specs.Same.{Bytes}
 use Rattle.buffer.specs.Field.{le16, le64}
 use Rattle.config.specs.Limits.{maxArguments, maxBytes, maxCommandKey}
 use Rattle.config.specs.declared.Settings.{Settings}
-use Rattle.format.specs.Runs.{encAll, All}
+use Rattle.format.specs.Lists.{encAll, All}
 use Rattle.commands.specs.Names.{isCacheable}
 use Rattle.commands.specs.MultiKey.{multiKey}
 use Rattle.commands.specs.declared.MultiKey.{MultiKey}

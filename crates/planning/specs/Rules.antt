@@ -6,7 +6,7 @@ use Prim.Native.Nat.{ℕ, zero, suc, _^_, _≤_, _<_}
 use lib.ListN.{length}
 use Rattle.buffer.specs.Same.{Bytes}
 use Rattle.config.specs.Limits.{maxCommands, maxArguments, maxKey, maxCommandKey}
-use Rattle.format.specs.Runs.{All}
+use Rattle.format.specs.Lists.{All}
 use Rattle.resp3.specs.Value.{IsValue}
 use Rattle.book.specs.Calls.{Wanted}
 use Rattle.planning.specs.Plan.{Node, handOn, servedValue, allServed, missingKey, several, waitingPlace, endOfSeveral, Plan, encPlan}

@@ -13,7 +13,8 @@ use Rattle.resp3.specs.Decode.{valuesOf}
 use Rattle.resp3.specs.Complete.{Got, items-law}
 use Rattle.call_record.specs.Record.{Record, transaction}
 use Rattle.planning.specs.Outcome.{CachingResult}
-use Rattle.cmd.specs.Pack.{execTexts, blobs-valid, blobs-deep}
+use Rattle.cmd.specs.Pack.{execTexts}
+use Rattle.cmd.specs.PackLaws.{blobs-valid, blobs-deep}
 use Rattle.planning.specs.Sent.{Packed, commandValues, sentBytes, sent, wrapped, responses}
 use Rattle.planning.specs.Planning.{Planned, plannedBy}
 

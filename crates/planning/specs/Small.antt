@@ -7,7 +7,7 @@ use lib.ListN.{length, length-append}
 use Rattle.buffer.specs.Same.{Bytes}
 use Rattle.buffer.specs.Field.{le32}
 use Rattle.config.specs.Limits.{maxArgument}
-use Rattle.format.specs.Runs.{encAll, All}
+use Rattle.format.specs.Lists.{encAll, All}
 use Rattle.commands.specs.MultiKey.{multiKey, singleName}
 use Rattle.commands.specs.declared.MultiKey.{MultiKey}
 use Rattle.commands.specs.declared.MultiKey.the-variants.{None, Mget, JsonMget}

@@ -5,7 +5,8 @@ use mathlib.Core.List.{_++_}
 use Prim.Native.Nat.{ℕ}
 use native.Mathlib.Omega.{arith}
 use Rattle.buffer.specs.Cases.{byTest}
-use Rattle.buffer.specs.Same.{Bytes, same, same-eq}
+use Rattle.buffer.specs.Same.{Bytes, same}
+use Rattle.buffer.specs.SameLaws.{same-eq}
 use Rattle.buffer.specs.Ascii.{ascii}
 use Rattle.commands.specs.MultiKey.{multiKey, singleName}
 use Rattle.commands.specs.declared.MultiKey.{MultiKey}

@@ -8,7 +8,7 @@ use lib.ListN.{length, length-append}
 use Rattle.buffer.specs.Same.{Bytes}
 use Rattle.config.specs.Limits.{maxArguments}
 use Rattle.config.specs.declared.Settings.{Settings}
-use Rattle.format.specs.Runs.{All}
+use Rattle.format.specs.Lists.{All}
 use Rattle.call_record.specs.Record.{Command, ValidCommand}
 use Rattle.cursor.specs.At.{argsAt, ArgsHere, headAt, commandOf, commandNext, commandsAt, CommandsIn}
 use Rattle.cursor.specs.Steps.{commands-none, commands-more, commands-in}

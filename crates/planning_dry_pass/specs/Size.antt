@@ -7,7 +7,7 @@ use native.Mathlib.Omega.{arith}
 use lib.ListN.{length, length-append}
 use Rattle.buffer.specs.Same.{Bytes}
 use Rattle.config.specs.declared.CacheMode.{CacheMode}
-use Rattle.format.specs.Runs.{encAll}
+use Rattle.format.specs.Lists.{encAll}
 use Rattle.call_record.specs.Record.{Command}
 use Rattle.cursor.specs.At.{rangeBytes, commandOf}
 use Rattle.cursor.specs.declared.Head.{Head}
@@ -18,8 +18,7 @@ use Rattle.book.specs.Calls.{Wanted}
 use Rattle.planning.specs.Outcome as plan
 use Rattle.planning.specs.Outcome.{Place, filled, waiting, missing, item, ignored, notCacheable, singleItem, multipleItem, wholeKey}
 use Rattle.planning.specs.Sent.{keysOf}
-use Rattle.planning.specs.Plan.{placeNodes, nodeBytes, encNode}
-use Rattle.planning.specs.Plan.{handOnKind, servedKind, allServedKind, missingKind, severalKind, waitingKind, endKind}
+use Rattle.planning.specs.Plan.{placeNodes, nodeBytes, encNode, handOnKind, servedKind, allServedKind, missingKind, severalKind, waitingKind, endKind}
 use Rattle.planning_ask.specs.Asked.{severalName, pathIn, SeveralIn}
 use Rattle.planning_ask.specs.Keys.{whole-key}
 use Rattle.planning_ask.specs.declared.Several.{Several}

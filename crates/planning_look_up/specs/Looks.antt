@@ -8,7 +8,8 @@ use native.Mathlib.Numerals.{add-one}
 use lib.ListN.{length, take}
 use Rattle.buffer.specs.Same.{Bytes}
 use Rattle.config.specs.declared.Settings.{Settings}
-use Rattle.statistics.specs.OfBook.{countsOf, adding, adding-counts}
+use Rattle.statistics.specs.OfBook.{countsOf, adding}
+use Rattle.statistics.specs.OfBookLaws.{adding-counts}
 use Rattle.statistics.specs.declared.Statistics.{Statistics}
 use Rattle.call_record.specs.Record.{Command}
 use Rattle.cursor.specs.At.{rangeBytes, ArgsHere}

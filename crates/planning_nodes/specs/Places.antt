@@ -12,7 +12,7 @@ use Rattle.buffer.specs.Part.{part, put}
 use Rattle.buffer.specs.Copied.{Copied, copied-start, copied-next, copied-room, copied-done, copied-ends}
 use Rattle.config.specs.Limits.{maxArena, maxBytes}
 use Rattle.config.specs.declared.Settings.{Settings}
-use Rattle.format.specs.Runs.{encAll, All}
+use Rattle.format.specs.Lists.{encAll, All}
 use Rattle.cursor.specs.At.{rangeBytes, RangeIn}
 use Rattle.cursor.specs.declared.Args.{Args}
 use Rattle.cursor.specs.declared.Range.{Range}

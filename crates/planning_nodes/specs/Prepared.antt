@@ -15,7 +15,7 @@ use Rattle.buffer.specs.Lists.{drop-past}
 use Rattle.buffer.specs.Part.{part, put}
 use Rattle.buffer.specs.Step.{put-front}
 use Rattle.config.specs.declared.Settings.{Settings}
-use Rattle.format.specs.Runs.{encAll, All}
+use Rattle.format.specs.Lists.{encAll, All}
 use Rattle.call_record.specs.Record.{Command}
 use Rattle.cursor.specs.At.{rangeBytes, RangeIn, commandOf}
 use Rattle.cursor.specs.declared.Head.{Head}

@@ -21,7 +21,7 @@ ghost use Prim.Native.Nat.{ℕ, _+_, _^_, _≤_, _<_};
 ghost use lib.ListN.{length};
 ghost use mathlib.Core.List.{[], _∷_};
 ghost use Rattle.config.specs.Limits.{maxBytes};
-ghost use Rattle.format.specs.Runs.{encAll};
+ghost use Rattle.format.specs.Lists.{encAll};
 ghost use Rattle.call_record.specs.Record.{Command};
 ghost use Rattle.cursor.specs.At.{rangeBytes, RangeIn, ArgsHere, commandOf};
 ghost use Rattle.book.specs.Book.{Row};

@@ -2,7 +2,7 @@
 use mathlib.Core.Path.{_≡_, refl, sym, ap, ap₂, _∙_}
 use mathlib.Core.List.{List, [], _∷_, _++_, append-assoc}
 use Rattle.buffer.specs.Same.{Bytes}
-use Rattle.format.specs.Runs.{encAll}
+use Rattle.format.specs.Lists.{encAll}
 use Rattle.resp3.specs.Value.{encs}
 use Rattle.resp3.specs.Rows.{enc-is}
 use Rattle.cmd.specs.Pack.{packed, commandValue}

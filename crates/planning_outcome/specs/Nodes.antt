@@ -6,7 +6,7 @@ use Prim.Native.Nat.{ℕ, suc}
 use native.Mathlib.Omega.{arith}
 use lib.ListN.{length}
 use Rattle.buffer.specs.Same.{Bytes}
-use Rattle.format.specs.Runs.{encAll}
+use Rattle.format.specs.Lists.{encAll}
 use Rattle.book.specs.Calls.{Wanted}
 use Rattle.planning.specs.Outcome.{Place, filled, waiting, missing, servedValues, value, values, single, multiple, cached, notCached, notCacheable}
 use Rattle.planning.specs.Outcome.{CachingResult, item, ignored}

@@ -6,7 +6,7 @@ use Prim.Native.Nat.{ℕ, _+_}
 use lib.ListN.{length, length-append}
 use Rattle.buffer.specs.Same.{Bytes}
 use Rattle.config.specs.declared.CacheMode.{CacheMode}
-use Rattle.format.specs.Runs.{encAll}
+use Rattle.format.specs.Lists.{encAll}
 use Rattle.call_record.specs.Record.{Command}
 use Rattle.book.specs.Book.{Setup, Book, Row}
 use Rattle.book.specs.Lookups.{dry}

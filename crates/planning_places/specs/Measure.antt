@@ -9,7 +9,7 @@ use lib.ListN.{length, length-append}
 use Rattle.buffer.specs.Same.{Bytes}
 use Rattle.config.specs.Limits.{maxBytes}
 use Rattle.config.specs.declared.Settings.{Settings}
-use Rattle.format.specs.Runs.{encAll}
+use Rattle.format.specs.Lists.{encAll}
 use Rattle.decimal.specs.Digits.{digits}
 use Rattle.decimal.specs.DigitLaws.{count-max}
 use Rattle.cursor.specs.At.{rangeBytes, RangeIn, ArgsHere}

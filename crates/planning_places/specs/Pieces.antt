@@ -5,7 +5,7 @@ use mathlib.Core.List.{List, [], _∷_, _++_}
 use Prim.Native.Nat.{ℕ}
 use Rattle.buffer.specs.Same.{Bytes}
 use Rattle.config.specs.declared.Settings.{Settings}
-use Rattle.format.specs.Runs.{encAll}
+use Rattle.format.specs.Lists.{encAll}
 use Rattle.cursor.specs.At.{rangeBytes}
 use Rattle.cursor.specs.declared.Range.{Range}
 use Rattle.cmd.specs.Pack.{packed, blob, blobBytes, pttlTexts}

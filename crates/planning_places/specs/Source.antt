@@ -13,7 +13,7 @@ use Rattle.buffer.specs.Same.{Bytes}
 use Rattle.buffer.specs.Field.{read32}
 use Rattle.buffer.specs.Part.{part}
 use Rattle.buffer.specs.Copied.{Copied, copied-next, copied-room, copied-done, copied-ends}
-use Rattle.format.specs.Runs.{encAll, All}
+use Rattle.format.specs.Lists.{encAll, All}
 use Rattle.cursor.specs.At.{rangeBytes, RangeIn, ArgsHere}
 use Rattle.cursor.specs.declared.Args.{Args}
 use Rattle.cmd.specs.Pack.{packed, blob, pttlTexts}

@@ -12,7 +12,7 @@ use Rattle.planning.specs.Ask.{ask}
 use Rattle.planning.specs.Outcome as plan
 use Rattle.planning.specs.Sent.{sends, sentBytes}
 use Rattle.planning.specs.Plan.{encNode, nodesOf}
-use Rattle.format.specs.Runs.{encAll}
+use Rattle.format.specs.Lists.{encAll}
 use Rattle.planning.specs.Passes.{outcomeOn}
 use Rattle.planning_outcome.specs.Result.{outcomeFor}
 use Rattle.planning_outcome.specs.Places.{outcome-on}

@@ -14,12 +14,13 @@ use Rattle.config.specs.Limits.{maxBytes}
 use Rattle.config.specs.declared.CacheMode.{CacheMode}
 use Rattle.config.specs.declared.CacheMode.the-variants.{All, OptIn}
 use Rattle.config.specs.declared.Settings.{Settings}
-use Rattle.format.specs.Runs.{encAll}
+use Rattle.format.specs.Lists.{encAll}
 use Rattle.cursor.specs.At.{rangeBytes, RangeIn, argsOf, commandOf}
 use Rattle.cursor.specs.declared.Head.{Head}
 use Rattle.cursor.specs.declared.Range.{Range}
 use Rattle.call_record.specs.Record.{Command}
-use Rattle.cmd.specs.Pack.{texts, packed, pttlTexts, cachingTexts, head, blob, blobBytes, packed-pieces}
+use Rattle.cmd.specs.Pack.{texts, packed, pttlTexts, cachingTexts, head, blob, blobBytes}
+use Rattle.cmd.specs.PackLaws.{packed-pieces}
 use Rattle.cmd.specs.Laws.{Wrote}
 use Rattle.plan_write.specs.Wrote.{wrote-long}
 use Rattle.book.specs.Book.{Row, Setup}

@@ -19,7 +19,7 @@ use Rattle.cursor.specs.declared.Range.{Range}
 use Rattle.command_key.specs.Keys.{range-length}
 use Rattle.cmd.specs.Pack.{sent, packed, pttlTexts, head, blob, blobBytes}
 use Rattle.cmd.specs.Laws.{bounded, head-length, blob-length, blobsAt, blobs-none, blobs-length, packed-length, pttlStart, pttl-pieces, caching-is}
-use Rattle.format.specs.Runs.{encAll}
+use Rattle.format.specs.Lists.{encAll}
 use Rattle.planning.specs.Sent.{pttls}
 use Rattle.planning_ask.specs.Asked.{severalName, pathIn, SeveralIn}
 use Rattle.planning_ask.specs.declared.Several.{Several}

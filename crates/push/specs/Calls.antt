@@ -15,7 +15,7 @@ use Rattle.book.specs.Book.{Setup, Row, Counts}
 use Rattle.book.specs.Calls.{afterCall}
 use Rattle.arena.specs.Layout.{encode}
 use Rattle.arena.specs.Decode as arena
-use Rattle.arena.specs.Sequence.{Held, lend, bookOf}
+use Rattle.arena.specs.Held.{Held, lend, bookOf}
 use Rattle.resolving.specs.Pushes.{pushed}
 use Rattle.sharded_lru.specs.Lent.{setupNow}
 use Rattle.sharded_lru.specs.Admit.{admitted, Entered}

@@ -23,8 +23,8 @@ use Rattle.book.specs.Calls.{call-defs, ons, invalidations}
 use Rattle.arena.specs.Layout.{head, itemHead, encEntry, encEntries, encItem, encItems, encShard, encShards, encode}
 use Rattle.arena.specs.Decode.{readEntry, readEntries, readItem, readItems, readShard, readArena, every, distinctKeys, distinctCommands, mayStore}
 use Rattle.arena.specs.Decode.{itemFits, itemFine, rowFine, rowsFine, isImage, decode}
-use Rattle.arena.specs.Sequence.{Held, lend}
-use Rattle.arena.specs.Sizes.{setupOf}
+use Rattle.arena.specs.Held.{Held, lend}
+use Rattle.arena.specs.SetupOf.{setupOf}
 use Rattle.resolving.specs.Pushes.{pushed}
 use Rattle.resp3.specs.Decode.{bytesAt, lineAt, integerAt, flagAt, valuesAt, pairsAt, attributeAt, bodyOf, iterOf, valueOf, decode as decodeValue}
 use Rattle.single_calls.specs.Single.{Return, refusedAs}

@@ -19,7 +19,7 @@ use Rattle.resp3_element.specs.declared.Elements.the-variants.{Of, No}
 use Rattle.resp3_element.specs.Meaning.{ofKind, isNull, blobOf, arrayOf, Stands, Holds}
 use Rattle.book.specs.Book.{Setup, Book, Counts, plus, count, invalidate, on, invalidateAll, allEntries, put, effect, after, afterAll}
 use Rattle.book.specs.Calls.{push, pushAll, ons, invalidations, afterCall, call-defs}
-use Rattle.arena.specs.Sizes.{setupOf}
+use Rattle.arena.specs.SetupOf.{setupOf}
 use Rattle.resolving.specs.Pushes.{keysOf, ignored, invalidating, afterFirst, isInvalidate, fromElements, fromPush}
 use Rattle.sharded_lru.specs.Lent.{setupNow, Lent, Arena, effectIn, rowsAfter}
 use Rattle.sharded_lru.specs.Laws.{rows-after}

@@ -12,7 +12,7 @@ use Rattle.resp3.specs.Decode.{decode}
 use Rattle.resp3.specs.Value.{Value}
 use Rattle.book.specs.Book.{Setup, Row}
 use Rattle.book.specs.Calls.{Call, refused, afterCall}
-use Rattle.arena.specs.Sequence.{Held, lend, bookOf}
+use Rattle.arena.specs.Held.{Held, lend, bookOf}
 use Rattle.resolving.specs.Pushes.{pushed}
 use Rattle.sharded_lru.specs.Lent.{setupNow}
 use Rattle.call_entry.specs.Entered.{noCause, entered}

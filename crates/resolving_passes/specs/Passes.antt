@@ -9,7 +9,7 @@ use Rattle.buffer.specs.Same.{Bytes}
 use Rattle.buffer.specs.Part.{put}
 use Rattle.config.specs.declared.CacheMode.{CacheMode}
 use Rattle.decimal.specs.Digits.{digits}
-use Rattle.format.specs.Runs.{All}
+use Rattle.format.specs.Lists.{All}
 use Rattle.resp3.specs.Value.{Values}
 use Rattle.planning.specs.Plan.{Node}
 use Rattle.planning.specs.Rules.{GoodNode}

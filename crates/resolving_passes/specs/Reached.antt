@@ -8,7 +8,7 @@ use lib.ListN.{length, drop, length-append, length-drop}
 use Rattle.buffer.specs.Same.{Bytes}
 use Rattle.buffer.specs.FieldLaws.{length-le}
 use Rattle.config.specs.declared.CacheMode.{CacheMode}
-use Rattle.format.specs.Runs.{encAll}
+use Rattle.format.specs.Lists.{encAll}
 use Rattle.resp3.specs.Value.{Values}
 use Rattle.book.specs.Calls.{Storing}
 use Rattle.planning.specs.Plan.{Node, encNode, nodeBytes}

@@ -7,7 +7,7 @@ use lib.ListN.{length, drop}
 use Rattle.buffer.specs.Same.{Bytes}
 use Rattle.config.specs.declared.CacheMode.{CacheMode}
 use Rattle.config.specs.declared.CacheMode.the-variants.{All, OptIn}
-use Rattle.format.specs.Runs.{encAll}
+use Rattle.format.specs.Lists.{encAll}
 use Rattle.resp3.specs.Value.{Values, none, more}
 use Rattle.book.specs.Calls.{Wanted, missingUntil}
 use Rattle.planning.specs.Plan.{Node, handOn, servedValue, allServed, missingKey, several, waitingPlace, endOfSeveral, encNode}

@@ -6,7 +6,7 @@ use Prim.Native.Nat.{ℕ, zero, suc}
 use native.Mathlib.Omega.{arith}
 use lib.ListN.{length, drop}
 use Rattle.buffer.specs.Same.{Bytes}
-use Rattle.format.specs.Runs.{All}
+use Rattle.format.specs.Lists.{All}
 use Rattle.resp3.specs.Value.{Values, none, more, count, Valid, encode, IsValue}
 use Rattle.resp3.specs.Decode.{decode}
 use Rattle.resp3.specs.Law.{decode-law}

@@ -9,8 +9,8 @@ use borrow.Author.Tests.{leb-true, leb-false, eqb-true, eqb-false}
 use Rattle.buffer.specs.Cases.{byTest}
 use Rattle.buffer.specs.Same.{Bytes}
 use Rattle.buffer.specs.Places.{inside, first, after, getD-drop0}
-use Rattle.decimal.specs.Digits.{digits, digits-one, digits-more}
-use Rattle.decimal.specs.DigitLaws.{digits-cases, count-pos}
+use Rattle.decimal.specs.Digits.{digits}
+use Rattle.decimal.specs.DigitLaws.{digits-one, digits-more, digits-cases, count-pos}
 use Rattle.decimal.specs.Read.{digitB, lead, valAcc}
 use Rattle.decimal.specs.ReadLaws.{num-says}
 use Rattle.decimal.specs.NumLaw.{num-law}

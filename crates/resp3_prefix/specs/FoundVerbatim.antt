@@ -11,7 +11,8 @@ use Rattle.buffer.specs.Cases.{byTest}
 use Rattle.buffer.specs.Same.{Bytes}
 use Rattle.buffer.specs.Places.{step}
 use Rattle.config.specs.Limits.{maxBytes}
-use Rattle.decimal.specs.Digits.{digits, digits-more}
+use Rattle.decimal.specs.Digits.{digits}
+use Rattle.decimal.specs.DigitLaws.{digits-more}
 use Rattle.resp3.specs.Value.{crlf, counted, framed}
 use Rattle.resp3_prefix.specs.declared.Begun.the-variants.{Lacks}
 use Rattle.resp3_prefix.specs.declared.Count.{Count}

@@ -24,7 +24,7 @@ use Rattle.book.specs.Book.{Setup, Row, afterAll, answers}
 use Rattle.book.specs.Calls.{refusals, ons, stores, call-defs}
 use Rattle.arena.specs.Decode.{decode}
 use Rattle.arena.specs.Image.{decode-exact}
-use Rattle.arena.specs.Sequence.{Held, lend, bookOf}
+use Rattle.arena.specs.Held.{Held, lend, bookOf}
 use Rattle.sharded_lru.specs.Lent.{setupNow}
 use Rattle.planning.specs.Plan as nodes
 use Rattle.plan.specs.Decode.{decodePlan}

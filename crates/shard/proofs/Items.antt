@@ -6,9 +6,11 @@ use mathlib.Core.Bool.{true, false}
 use mathlib.Core.Option.{none, some}
 use mathlib.Core.List.{[], _∷_}
 use Rattle.buffer.specs.Cases.{byTest}
-use Rattle.buffer.specs.Same.{Bytes, same, same-eq}
+use Rattle.buffer.specs.Same.{Bytes, same}
+use Rattle.buffer.specs.SameLaws.{same-eq}
 use Rattle.book.specs.Book.{Item, Row, find, without, replace, rowBytes}
-use Rattle.book.specs.Rows.{Distinct, Place, without-absent}
+use Rattle.book.specs.Rows.{Place, without-absent}
+use Rattle.book.specs.Sound.{Distinct}
 use Rattle.arena.specs.Edit.{itemBytes}
 use Rattle.shard.specs.declared.Position.the-variants.{At, Absent}
 use Rattle.shard.specs.Holds.{Holds, Stands, ItemAt}

@@ -6,7 +6,7 @@ use lib.ListN.{length}
 use Rattle.buffer.specs.Same.{Bytes}
 use Rattle.config.specs.Limits.{maxArena}
 use Rattle.book.specs.Book.{Item, Row, rowBytes}
-use Rattle.book.specs.Rows.{Distinct}
+use Rattle.book.specs.Sound.{Distinct}
 use Rattle.arena.specs.Layout.{encShard}
 use Rattle.arena.specs.Read.{Smalls}
 use Rattle.arena.specs.Edit.{placeAfter}

@@ -14,7 +14,8 @@ use Rattle.config.specs.declared.CheckedConfig.the-variants.{Fine, Refused as B
 use Rattle.resp3.specs.Ends.{isValue}
 use Rattle.siphash.specs.Sip.{sipHash13}
 use Rattle.arena.specs.Decode.{isImage}
-use Rattle.arena.specs.Sizes.{sized, setupOf}
+use Rattle.arena.specs.Sizes.{sized}
+use Rattle.arena.specs.SetupOf.{setupOf}
 use Rattle.sharded_lru.specs.declared.Admitted.the-variants.{Admits, Refused}
 use Rattle.sharded_lru.specs.Lent.{setupNow}
 use Rattle.sharded_lru.specs.Admit.{admitted}

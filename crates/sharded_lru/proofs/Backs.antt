@@ -13,7 +13,7 @@ use Rattle.resp3.specs.Ends.{isValue}
 use Rattle.book.specs.Book.{Row, stored, noSpace, lookup, store, on, keyOf, effectOn}
 use Rattle.book.specs.Trace.{row-here}
 use Rattle.arena.specs.Layout.{encShard}
-use Rattle.arena.specs.Sizes.{setupOf}
+use Rattle.arena.specs.SetupOf.{setupOf}
 use Rattle.arena.specs.Place.{shardPlace, arenaPlace}
 use Rattle.shard_lookup.specs.Looked.{lookupOn, Told, BeginsAt}
 use Rattle.shard_lookup.specs.declared.Looked.{Looked}

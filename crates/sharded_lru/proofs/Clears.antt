@@ -12,10 +12,10 @@ use Rattle.buffer.specs.Same.{Bytes}
 use Rattle.config.specs.Limits.{maxArena}
 use Rattle.config.specs.declared.Settings.{Settings}
 use Rattle.book.specs.Book.{Row, rowEntries, allEntries, invalidateAll, setRow}
-use Rattle.book.specs.Sound.{sound-nil}
+use Rattle.book.specs.SoundLaws.{sound-nil}
 use Rattle.book.specs.Trace.{row-here, row-elsewhere}
 use Rattle.arena.specs.Layout.{encShard}
-use Rattle.arena.specs.Sizes.{setupOf}
+use Rattle.arena.specs.SetupOf.{setupOf}
 use Rattle.shard.proofs.Fields.{all-few}
 use Rattle.sharded_lru.specs.Lent.{setupNow, Lent, rowsAfter}
 use Rattle.sharded_lru.specs.Laws.{ends-within}

@@ -19,7 +19,7 @@ use Rattle.book.specs.Book.{Row, Keyed, on, keyOf, setRow}
 use Rattle.arena.specs.Layout.{encShard}
 use Rattle.arena.specs.Length.{length-shard}
 use Rattle.arena.specs.Tests.{FineRow}
-use Rattle.arena.specs.Sizes.{setupOf}
+use Rattle.arena.specs.SetupOf.{setupOf}
 use Rattle.shard.specs.Holds.{Holds, Shard}
 use Rattle.sharded_lru.specs.Lent.{setupNow, Lent, Arena, effectIn, rowsAfter}
 use Rattle.sharded_lru.specs.Laws.{proper, ends-within, shard-holds, shard-changed}

@@ -6,8 +6,8 @@ use borrow.Author.Tests.{le-leb}
 use Rattle.buffer.specs.Same.{Bytes}
 use Rattle.resp3.specs.Ends.{isValue}
 use Rattle.book.specs.Book.{Setup, Row, Keyed, store, keyOf, effectOn}
-use Rattle.book.specs.Each.{each-effectOn}
-use Rattle.book.specs.Sound.{sound-effectOn}
+use Rattle.book.specs.EachLaws.{each-effectOn}
+use Rattle.book.specs.SoundLaws.{sound-effectOn}
 use Rattle.book.specs.Storable.{StorableItem, StorableKeyed, brings-storable}
 use Rattle.arena.specs.Decode.{mayStore}
 use Rattle.arena.specs.Tests.{yes-every, FineRow}

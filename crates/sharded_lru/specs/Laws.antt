@@ -22,7 +22,7 @@ use Rattle.arena.specs.Length.{length-shard}
 use Rattle.arena.specs.Around.{shard-put}
 use Rattle.arena.specs.Tests.{FineRow, WellFormed}
 use Rattle.arena.specs.Image.{Sized, encode-injective}
-use Rattle.arena.specs.Sizes.{setupOf}
+use Rattle.arena.specs.SetupOf.{setupOf}
 use Rattle.shard.specs.Holds.{Holds}
 use Rattle.shard.specs.FromImage.{image-holds}
 use Rattle.sharded_lru.specs.Lent.{setupNow, Lent, rowsAfter}

@@ -8,7 +8,7 @@ use Rattle.config.specs.declared.Settings.{Settings}
 use Rattle.siphash.specs.Sip.{sipHash13}
 use Rattle.resp3.specs.Ends.{isValue}
 use Rattle.book.specs.Book.{Setup, Row, Effect, Keyed, keyOf, effectOn, Event, on, invalidateAll, newEpoch, setRow}
-use Rattle.arena.specs.Sizes.{setupFor}
+use Rattle.arena.specs.SetupOf.{setupFor}
 use Rattle.arena.specs.Image.{Image}
 
 -- the book's setup that settings give, with the shards' hash

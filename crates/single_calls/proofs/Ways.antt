@@ -14,7 +14,8 @@ use Rattle.config.specs.Config.{checked}
 use Rattle.config.specs.declared.Settings.{Settings}
 use Rattle.config.specs.declared.CheckedConfig.{CheckedConfig}
 use Rattle.config.specs.declared.CheckedConfig.the-variants.{Fine, Refused as BadConfig}
-use Rattle.statistics.specs.OfBook.{countsOf, adding, adding-counts}
+use Rattle.statistics.specs.OfBook.{countsOf, adding}
+use Rattle.statistics.specs.OfBookLaws.{adding-counts}
 use Rattle.statistics.specs.declared.Statistics.{Statistics}
 use Rattle.resp3.specs.Ends.{isValue}
 use Rattle.book.specs.Book.{Setup, Row, Counts, plus, count, Answer, stored, noSpace as spaceless, invalidated, Keyed, lookup, on, put, effect}
@@ -24,7 +25,7 @@ use Rattle.arena.specs.Layout.{encode}
 use Rattle.arena.specs.Decode.{readArena, decode}
 use Rattle.arena.specs.Image.{decodes}
 use Rattle.arena.specs.Place.{arenaPlace}
-use Rattle.arena.specs.Sequence.{Held, lend}
+use Rattle.arena.specs.Held.{Held, lend}
 use Rattle.command_key.specs.Key.{keyBytes}
 use Rattle.shard_lookup.specs.Looked.{Told, BeginsAt}
 use Rattle.shard_lookup.specs.declared.Looked.{Looked}

@@ -9,8 +9,9 @@ use Rattle.config.specs.declared.Settings.{Settings}
 use Rattle.config.specs.declared.CheckedConfig.the-variants.{Fine}
 use Rattle.book.specs.Book.{Counts, fresh}
 use Rattle.arena.specs.Empty.{zeros-empty}
-use Rattle.arena.specs.Sequence.{lend}
-use Rattle.arena.specs.Sizes.{setupFor, sized}
+use Rattle.arena.specs.Held.{lend}
+use Rattle.arena.specs.Sizes.{sized}
+use Rattle.arena.specs.SetupOf.{setupFor}
 use Rattle.single_calls.specs.Setup.{freshArena}
 
 -- the arena after a setup that is not refused is what the caller of a fresh book holds

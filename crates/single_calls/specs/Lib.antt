@@ -5,6 +5,7 @@ pub mod Answers
 pub mod AnswerLaws
 pub mod SingleCases
 pub mod AsCall
+pub mod AsCallLaws
 pub mod PlaceLaws
 pub mod Laws
 pub mod Cases

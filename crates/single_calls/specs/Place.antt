@@ -10,7 +10,7 @@ use Rattle.resp3.specs.Ends.{isValue}
 use Rattle.book.specs.Book.{Setup, Row, lookup}
 use Rattle.arena.specs.Decode.{decode}
 use Rattle.arena.specs.Place.{arenaPlace}
-use Rattle.arena.specs.Sequence.{Held}
+use Rattle.arena.specs.Held.{Held}
 use Rattle.sharded_lru.specs.Lent.{setupNow}
 use Rattle.single_calls.specs.Single.{Return, singleCall}
 

@@ -20,14 +20,16 @@ use Rattle.arena.specs.Decode.{decode}
 use Rattle.arena.specs.Tests.{WellFormed}
 use Rattle.arena.specs.Image.{Sized, encoded-length, decode-encode}
 use Rattle.arena.specs.Sizes.{sized, proper}
-use Rattle.arena.specs.Sequence.{Held, outcomeOf, lend, one-call}
+use Rattle.arena.specs.Sequence.{outcomeOf, one-call}
+use Rattle.arena.specs.Held.{Held, lend}
 use Rattle.arena.specs.Place.{arenaPlace}
 use Rattle.sharded_lru.specs.Lent.{setupNow}
 use Rattle.sharded_lru.specs.Laws.{formed-set}
 use Rattle.sharded_lru.specs.Keeps.{fine-effect}
 use Rattle.call_entry.specs.Entered.{holding, onRows, entered}
 use Rattle.single_calls.specs.Single.{Return, refusedAs, overlong, wrongBytes, calledOn, imaged, singleCall}
-use Rattle.single_calls.specs.AsCall.{callOf, outcomeValue, returned, as-call}
+use Rattle.single_calls.specs.AsCall.{callOf, outcomeValue, returned}
+use Rattle.single_calls.specs.AsCallLaws.{as-call}
 use Rattle.single_calls.specs.Place.{placeIn, servedAt, placeLeft, placeUnder, lookupPlace}
 
 -- ---- by the book

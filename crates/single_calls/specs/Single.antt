@@ -13,7 +13,7 @@ use Rattle.config.specs.Config.{checked}
 use Rattle.resp3.specs.Ends.{isValue}
 use Rattle.book.specs.Book.{Setup, Row, Answer, hit, miss, stored, noSpace as spaceless, invalidated, number, Keyed, lookup, store, invalidate, on, answerTo}
 use Rattle.book.specs.Calls.{single, afterCall}
-use Rattle.arena.specs.Sequence.{Held, lend, bookOf}
+use Rattle.arena.specs.Held.{Held, lend, bookOf}
 use Rattle.sharded_lru.specs.Lent.{setupNow}
 use Rattle.call_entry.specs.Entered.{noCause, entered}
 

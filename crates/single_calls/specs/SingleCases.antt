@@ -20,8 +20,8 @@ use Rattle.arena.specs.Layout.{zeros, head, itemHead, encEntry, encEntries, enc
 use Rattle.arena.specs.Decode.{readEntry, readEntries, readItem, readItems, readShard, readArena, every, distinctKeys, distinctCommands, mayStore}
 use Rattle.arena.specs.Decode.{itemFits, itemFine, rowFine, rowsFine, isImage, decode}
 use Rattle.arena.specs.Place.{entriesPlace, itemsPlace, shardPlace, arenaPlace}
-use Rattle.arena.specs.Sequence.{Held, lend}
-use Rattle.arena.specs.Sizes.{setupOf}
+use Rattle.arena.specs.Held.{Held, lend}
+use Rattle.arena.specs.SetupOf.{setupOf}
 use Rattle.single_calls.specs.Place.{placeIn, servedAt, placeLeft, placeUnder, lookupPlace}
 use Rattle.call_entry.specs.Entered.{onRows, entered}
 use Rattle.single_calls.specs.Single.{Return, overlong, wrongBytes, numberOf, servedBy, calledOn, imaged, singleCall}

@@ -13,7 +13,7 @@ use Rattle.cursor.specs.At.{rangeBytes, RangeIn, commandOf}
 use Rattle.cursor.specs.declared.Head.{Head}
 use Rattle.cursor.specs.declared.Range.{Range}
 use Rattle.book.specs.Book.{Row, find, lookupItem, effectOn}
-use Rattle.book.specs.Sound.{sound-nil}
+use Rattle.book.specs.SoundLaws.{sound-nil}
 use Rattle.book.specs.Calls.{Wanted}
 use Rattle.arena.specs.Empty.{zeros-empty}
 use Rattle.planning.specs.Ask as asks
@@ -23,7 +23,7 @@ use Rattle.planning.specs.Sent.{keysOf, sends, sentBytes}
 use Rattle.planning.specs.Small.{parts-count}
 use Rattle.planning_ask.specs.Asked.{severalName, pathIn, keysIn, wantedIn, SeveralIn}
 use Rattle.planning_ask.specs.declared.Several.{Several}
-use Rattle.sharded_lru.specs.Laws.{sized}
+use Rattle.sharded_lru.specs.Laws.{sized, lent-same}
 use Rattle.sharded_lru.specs.Lent.{setupNow, Lent, Arena}
 use Rattle.planning_outcome.specs.Result.{placeOn, placesOn, outcomeFor, severalItem, Tells}
 use Rattle.planning_outcome.specs.Places.{tells-nothing, tells-uncacheable, tells-item, outcome-one}
@@ -32,7 +32,6 @@ use Rattle.planning_outcome.specs.declared.Served.the-variants.{Values}
 use Rattle.planning_outcome.specs.declared.CacheableCommand.the-variants.{Single, Multiple}
 use Rattle.planning_outcome.specs.declared.PrepCacheItem.the-variants.{Cached, NotCached, NotCacheable}
 use Rattle.planning_outcome.specs.declared.CachingResult.the-variants.{Item, Ignored}
-use Rattle.sharded_lru.specs.Laws.{lent-same}
 use Rattle.planning_places.specs.Source.{keysAt, KeysIn}
 use Rattle.planning_places.specs.declared.Source.{Source}
 use Rattle.planning_places.specs.declared.Source.the-variants.{Keys}

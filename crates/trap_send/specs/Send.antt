@@ -8,7 +8,7 @@ use lib.Dec.{ltb}
 use lib.ListN.{length, replicate}
 use Rattle.buffer.specs.Same.{Bytes}
 use Rattle.book.specs.Book.{Counts, plus}
-use Rattle.arena.specs.Sequence.{Held}
+use Rattle.arena.specs.Held.{Held}
 use Rattle.cache_manager.specs.Pipeline.{Returned, refusedAs, wrongAt, wrote, Left, planCall}
 use Rattle.trap_send.specs.declared.Sent.{Sent}
 use Rattle.trap_send.specs.declared.Sent.the-variants.{Front, Nothing}

@@ -22,7 +22,7 @@ use Rattle.resp3.specs.Ends.{isValue}
 use Rattle.resp3.specs.Cases.{nested, depth-16-read, depth-17-refused}
 use Rattle.book.specs.Book.{lookup, store, plus}
 use Rattle.arena.specs.Layout.{zeros}
-use Rattle.arena.specs.Sequence.{Held}
+use Rattle.arena.specs.Held.{Held}
 use Rattle.single_calls.specs.Single.{Return, singleCall}
 use Rattle.single_calls.specs.SingleCases as singles
 use Rattle.cache_manager.specs.Pipeline.{Left, wrote, planCall}

@@ -6,7 +6,7 @@ use borrow.Author.Tests.{not-true, not-false}
 use Rattle.resp3.specs.Ends.{isValue}
 use Rattle.siphash.specs.Sip.{sipHash13}
 use Rattle.arena.specs.Decode.{isImage}
-use Rattle.arena.specs.Sizes.{setupOf}
+use Rattle.arena.specs.SetupOf.{setupOf}
 use Rattle.arena_check.specs.Check.{shardsOk}
 use Rattle.arena_check.specs.Home.{homeIn}
 use Rattle.arena_check.proofs.Shards.{rest-read, shards-bad, shards-good, shard-read, lent-length, within-all, image-rest, image-shards, shards-none}

@@ -2,7 +2,8 @@
 use mathlib.Core.Path.{_≡_, sym, ap, _∙_}
 use Prim.Native.Nat.{ℕ, _+_, _-_}
 use native.Mathlib.Omega.{arith}
-use Rattle.buffer.specs.Same.{same, same-length}
+use Rattle.buffer.specs.Same.{same}
+use Rattle.buffer.specs.SameLaws.{same-length}
 use Rattle.buffer.specs.Part.{part}
 use Rattle.buffer.specs.PartLaws.{length-part}
 use borrow.Author.Needs.{needs}

@@ -5,7 +5,8 @@ use native.Mathlib.Omega.{arith}
 use lib.ListN.{length, drop}
 use borrow.Author.Tests.{eq-eqb, ne-eqb}
 use Rattle.buffer.specs.PartLaws.{part-rest}
-use Rattle.buffer.specs.Same.{same, same-length}
+use Rattle.buffer.specs.Same.{same}
+use Rattle.buffer.specs.SameLaws.{same-length}
 use Rattle.buffer.proofs.Tests.{same-block}
 use Rattle.buffer.proofs.same.Statement.{statement}
 use Rattle.buffer.proofs.same.Tie as tie

@@ -1,6 +1,6 @@
 -- `cache_manager::plan_seen` meets its contract. Assumes nothing.
 use mathlib.Core.Path.{refl, sym, _∙_}
-use Rattle.arena.specs.Sequence.{bookOf}
+use Rattle.arena.specs.Held.{bookOf}
 use Rattle.statistics.specs.OfBook.{countsOf}
 use Rattle.call_entry.specs.Entered.{holding}
 use Rattle.cache_manager.specs.Fit.{fit}

@@ -42,7 +42,7 @@ use denote.Triple.Walked.{walkOf, Walks, ends-at, walked, walk-meets}
 use Rattle.buffer.specs.Same.{Bytes}
 use Rattle.buffer.specs.Part.{part}
 use Rattle.book.specs.Book.{Counts}
-use Rattle.book.specs.Counts.{Counted}
+use Rattle.book.specs.Counted.{Counted}
 use Rattle.statistics.specs.declared.Statistics.{Statistics}
 use Rattle.statistics.specs.Counts.{more}
 use Rattle.statistics.proofs.Statistics as T

@@ -4,8 +4,8 @@ use Prim.Native.Nat.{_+_}
 use mathlib.Core.Path.{_≡_}
 use native.Mathlib.Omega.{arith}
 use lib.ListN.{length}
-use Rattle.decimal.specs.Digits.{digits, count-one}
-use Rattle.decimal.specs.DigitLaws.{count-is, count-max, count-four}
+use Rattle.decimal.specs.Digits.{digits}
+use Rattle.decimal.specs.DigitLaws.{count-one, count-is, count-max, count-four}
 use Rattle.decimal.proofs.countdigits.Statement.{statement}
 use Rattle.decimal.proofs.countdigits.Tie as tie
 

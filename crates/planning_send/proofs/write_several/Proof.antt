@@ -1,6 +1,6 @@
 -- `write_several` meets its contract: one writer after the other. Assumes nothing.
 use mathlib.Core.Path.{refl, sym}
-use Rattle.format.specs.Runs.{encAll}
+use Rattle.format.specs.Lists.{encAll}
 use Rattle.cmd.specs.Pack.{packed}
 use Rattle.planning.specs.Sent.{pttls}
 use Rattle.plan_write.specs.Wrote.{wrote-as, wrote-both, room-is, room-first, room-second}

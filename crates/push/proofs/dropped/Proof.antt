@@ -1,6 +1,7 @@
 -- `push::dropped` meets its contract. Assumes nothing.
 use mathlib.Core.Path.{ap, _∙_}
-use Rattle.statistics.specs.OfBook.{countsOf, adding-counts}
+use Rattle.statistics.specs.OfBook.{countsOf}
+use Rattle.statistics.specs.OfBookLaws.{adding-counts}
 use borrow.Author.Needs.{needs}
 use Rattle.push.proofs.dropped.Statement.{statement}
 use Rattle.push.proofs.dropped.Tie as tie

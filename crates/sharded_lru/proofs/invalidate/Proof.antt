@@ -2,7 +2,7 @@
 use mathlib.Core.Path.{sym, ap}
 use native.Mathlib.Omega.{arith}
 use Rattle.book.specs.Book.{plus, invalidate, effectOn, keyOf}
-use Rattle.arena.specs.Sizes.{setupOf}
+use Rattle.arena.specs.SetupOf.{setupOf}
 use Rattle.sharded_lru.proofs.Parts.{shards-below, key-ends, key-below, key-shard, key-holds, key-back}
 use borrow.Author.Needs.{needs}
 use Rattle.sharded_lru.proofs.invalidate.Statement.{statement}

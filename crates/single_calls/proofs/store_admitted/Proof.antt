@@ -3,7 +3,7 @@ use mathlib.Core.Path.{refl, sym, ap, _∙_}
 use mathlib.Core.Bool.{not}
 use borrow.Author.Tests.{not-false}
 use Rattle.single_calls.specs.Single.{overlong, wrongBytes}
-use Rattle.single_calls.specs.AsCall.{not-overlong}
+use Rattle.single_calls.specs.AsCallLaws.{not-overlong}
 use Rattle.single_calls.proofs.Ways.{too-long, bad-bytes, left-refused, store-left}
 use borrow.Author.Needs.{needs}
 use Rattle.single_calls.proofs.store_admitted.Statement.{statement}

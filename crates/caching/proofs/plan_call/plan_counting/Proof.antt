@@ -1,6 +1,6 @@
 -- `caching::plan_call::plan_counting` meets its contract: counts add up. Assumes nothing.
 use denote.Ref.{now}
-use Rattle.arena.specs.Sequence.{Held}
+use Rattle.arena.specs.Held.{Held}
 use Rattle.cache_manager.specs.Pipeline.{Left, planCall}
 use Rattle.caching.proofs.More.{plan-more}
 use Rattle.caching.proofs.Adds.{planned-as}

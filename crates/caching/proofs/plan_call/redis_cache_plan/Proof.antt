@@ -42,7 +42,7 @@ use denote.Triple.Walked.{Stays, stay-dropped, gave-slice, gave-ref, walkOf, All
 use denote.Triple.Walked.{goes-gave-ref, Walks, ends-at, walked, walk-meets}
 use denote.Exit.{yes}
 use Rattle.buffer.specs.Same.{Bytes}
-use Rattle.book.specs.Counts.{Counted}
+use Rattle.book.specs.Counted.{Counted}
 use Rattle.statistics.specs.declared.Statistics.{Statistics}
 use Rattle.statistics.specs.Counts.{more}
 use Rattle.statistics.proofs.Statistics as T
