@@ -28,34 +28,56 @@ impl Server {
         if !installed(name) {
             return None;
         }
-        let free = TcpListener::bind("127.0.0.1:0").expect("a port");
-        let port = free.local_addr().expect("an address").port();
-        drop(free);
-        Some(Self::on(port))
+        // A port that was free a moment ago may be taken by now: then another one is tried.
+        let started = (0..20).find_map(|_| {
+            let free = TcpListener::bind("127.0.0.1:0").expect("a port");
+            let port = free.local_addr().expect("an address").port();
+            drop(free);
+            Self::on(port)
+        });
+        Some(started.expect("a server that starts"))
     }
 
-    fn on(port: u16) -> Self {
+    /// A server on this port, once it answers; none where it ends, since the port is taken.
+    fn on(port: u16) -> Option<Self> {
         let running = Command::new("redis-server")
             .args(["--bind", "127.0.0.1", "--save", "", "--port"])
             .arg(port.to_string())
             .stdout(Stdio::null())
             .spawn()
             .expect("it is installed");
-        let server = Server { running, port };
+        let mut server = Server { running, port };
         for _ in 0..500 {
-            if TcpStream::connect(server.address()).is_ok() {
-                return server;
-            }
             sleep(Duration::from_millis(20));
+            if server.running.try_wait().expect("its state").is_some() {
+                return None;
+            }
+            if server.answers() {
+                return Some(server);
+            }
         }
-        panic!("the server does not start")
+        None
+    }
+
+    /// Whether a Redis server answers. A connection alone says nothing: while none listens yet, a socket may be given the port and be connected to itself.
+    fn answers(&self) -> bool {
+        let asked = || -> std::io::Result<String> {
+            let mut socket = TcpStream::connect(self.address())?;
+            socket.set_read_timeout(Some(Duration::from_secs(1)))?;
+            socket.write_all(b"PING\r\n")?;
+            let mut line = String::new();
+            BufReader::new(socket).read_line(&mut line)?;
+            Ok(line)
+        };
+        asked().is_ok_and(|line| line == "+PONG\r\n")
     }
 
     /// Stops it, and starts another one in its place.
     pub fn again(self) -> Self {
         let port = self.port;
         drop(self);
-        Self::on(port)
+        let started = (0..20).find_map(|_| Self::on(port));
+        started.expect("a server that starts")
     }
 
     pub fn address(&self) -> String {
