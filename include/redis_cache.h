@@ -63,7 +63,8 @@ typedef struct {
 
 /* What planning returns: so many bytes of the plan buffer and of the send buffer are the plan and what is to be sent; of the responses to what is sent,
  * the first `offset` are skipped and the next `count` are the replies: of a transaction what EXEC answers, with all before it skipped, else every
- * response. `at` is cause 2's offset: the first byte at which no valid record goes on as this one does, or the record's length where it ends early.
+ * response. `at` is cause 2's offset, the one at which the record goes wrong: the bytes before it are a front of some valid record, and with the
+ * byte there they are a front of none; of a record that is cut short it is the length.
  * All that is not told is 0: for cause 0 `at`, for cause 2 all but cause and `at`, for the other causes all but cause. */
 typedef struct {
     uint64_t cause;

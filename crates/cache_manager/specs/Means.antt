@@ -1,4 +1,4 @@
--- What planning's own answer means: the offset that it returns is the first that is allowed, and what it leaves in the send buffer is a run of RESP3
+-- What planning's own answer means: the offset that it returns is where the record goes wrong, and what it leaves in the send buffer is a run of RESP3
 -- commands, as many as its response
 -- counts say. Both are about `planCall`, whatever goes in. Assumes nothing.
 use mathlib.Core.Path.{_≡_, refl, sym, ap, _∙_}
@@ -14,7 +14,7 @@ use Rattle.config.specs.Limits.{maxBytes}
 use Rattle.config.specs.Causes.{badConfig, tooLong, badArena, lateExpiry, shortBuffer}
 use Rattle.config.specs.Config.{checked}
 use Rattle.config.specs.declared.Settings.{Settings}
-use Rattle.call_record.specs.Offset.{FirstAllowed}
+use Rattle.call_record.specs.Offset.{WrongAt}
 use Rattle.call_record.specs.Check.{checkDef, check-offset}
 use Rattle.call_record.specs.declared.Checked.{Checked}
 use Rattle.call_record.specs.declared.Checked.the-variants.{Fine, Wrong}
@@ -96,11 +96,11 @@ module _ (t e : ℕ) (s d f : Bytes) (h : Held) where
         each-entry (λ n. refusal t e s d f h (refusedAs n)) (admittedTo t e s d f h) Way (checked size mode ttl (length (h .arena))) (h .arena)
         (refused badConfig refl) (refused badArena refl) (λ g rows p q. admitted g rows)
 
-    -- a record that is refused is refused at the first allowed offset
-    pub offset-first : (o : ℕ) → left .returned ≡ wrongAt o → FirstAllowed s o
-    offset-first o r = by way
+    -- a record that is refused is refused at the place where it goes wrong
+    pub offset-wrong : (o : ℕ) → left .returned ≡ wrongAt o → WrongAt s o
+    offset-wrong o r = by way
       where
-        by : Way left → FirstAllowed s o
+        by : Way left → WrongAt s o
         by (refused n p) = absurd (not-refused n (sym (ap (λ (x : Left). x .returned) p) ∙ r))
         by (wrong q c p) = check-offset s o .0 (c ∙ ap Wrong (wrong-same (sym (ap (λ (x : Left). x .returned) p) ∙ r)))
         by (written y run p q) = absurd (not-written (sym p ∙ r))

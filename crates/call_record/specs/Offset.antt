@@ -1,9 +1,8 @@
--- The offset that comes with cause 2, for bytes that are no call record (rule R5 of docs/BEHAVIOUR.md): which offsets are allowed, and the first of them, which
--- is what the check answers. Definitions alone; nothing is assumed.
+-- The offset that comes with cause 2, for bytes that are no call record (rule R5 of docs/BEHAVIOUR.md, as request 7 has it): the one place where they go wrong.
+-- Definitions alone; nothing is assumed.
 use mathlib.Core.Path.{_≡_}
-use mathlib.Core.Logic.{_⊎_}
 use mathlib.Core.List.{_++_}
-use Prim.Native.Nat.{ℕ, _+_, _≤_, _<_}
+use Prim.Native.Nat.{ℕ, _+_, _<_}
 use lib.ListN.{length, take}
 use Rattle.buffer.specs.Same.{Bytes}
 use Rattle.format.specs.Begins.{Begins}
@@ -27,12 +26,9 @@ pub record EndsEarly (s : Bytes) : Type 0 where
   pub bytes : encRecord value ≡ s ++ rest
   pub more : 0 < length rest
 
--- an offset that may be answered: past the byte there no valid record can be reached any more, or it is the length and only the rest is lacking
-abbrev pub Allowed : Bytes → ℕ → Type 0
-Allowed s o = ((o < length s) × NoneBegins s o) ⊎ ((o ≡ length s) × EndsEarly s)
-
--- the first of them; up to it the bytes are still the beginning of a valid record
-pub record FirstAllowed (s : Bytes) (o : ℕ) : Type 0 where
-  pub allowed : Allowed s o
-  pub first : (p : ℕ) → Allowed s p → o ≤ p
-  pub before : Begins encRecord ValidRecord (take o s)
+-- s goes wrong at o
+pub data WrongAt (s : Bytes) (o : ℕ) : Type 0 where
+  -- the bytes before o are a front of some valid record, and with the byte at o they are a front of none
+  breaks : o < length s → Begins encRecord ValidRecord (take o s) → NoneBegins s o → WrongAt s o
+  -- a record cut short goes wrong at its length
+  cutShort : o ≡ length s → EndsEarly s → WrongAt s o

@@ -11,7 +11,7 @@ ghost use Rattle.call_record.specs.Check.{checkDef};
 ghost use Rattle.call_record.specs.Paths.{textEnd, argumentEnd, argumentsEnd};
 ghost use Rattle.call_record.specs.CommandPaths.{ttlEnd, restEnd, commandEnd, commandsEnd, tailEnd, recordEnd};
 
-// Whether bytes are a call record; if not, the first offset at which they are none.
+// Whether bytes are a call record; if not, the offset at which they go wrong.
 pub enum Checked {
     Fine,
     Wrong(usize),
@@ -249,7 +249,7 @@ fn record_end(s: &[u8]) -> End
     }
 }
 
-// Whether the bytes are a call record, and if not, the first offset at which they are none.
+// Whether the bytes are a call record, and if not, the offset at which they go wrong.
 pub fn check(bytes: &[u8]) -> Checked
     ensures { λ r. ⌜ r ≡ checkDef (now (bytes .entry)) ⌝ }
 {

@@ -38,7 +38,7 @@ use Rattle.resp3_prefix.specs.Begun.{firstValue}
 use Rattle.resp3_prefix.specs.declared.Begun.{Begun}
 use Rattle.resp3_prefix.specs.declared.Begun.the-variants.{Ends, Lacks, Never}
 use Rattle.call_record.specs.Record.{Record, encRecord, ValidRecord}
-use Rattle.call_record.specs.Offset.{IsRecord, FirstAllowed}
+use Rattle.call_record.specs.Offset.{IsRecord, WrongAt}
 use Rattle.call_record.specs.Check.{checkDef}
 use Rattle.call_record.specs.declared.Checked.the-variants.{Fine, Wrong}
 use Rattle.cursor.specs.At.{recordAt}
@@ -100,9 +100,8 @@ module _ (clock epoch : ℕ) (bytes plan send : Bytes) (h : Held) (g : Settings)
   pub data Plans : Left → Type 0 where
     -- 3: over 16 MiB
     recordTooLong : maxBytes < length bytes → Plans (refusal clock epoch bytes plan send h (plannings.refusedAs tooLong))
-    -- 2: no valid record's bytes; the offset is the first that is allowed
-    noRecord : length bytes ≤ maxBytes → (IsRecord bytes → ⊥) → (o : ℕ) → FirstAllowed bytes o
-        → Plans (refusal clock epoch bytes plan send h (plannings.wrongAt o))
+    -- 2: no valid record's bytes, which go wrong at one place; the offset is that one
+    noRecord : length bytes ≤ maxBytes → (o : ℕ) → WrongAt bytes o → Plans (refusal clock epoch bytes plan send h (plannings.wrongAt o))
     -- a valid record's bytes
     ofRecord : length bytes ≤ maxBytes → (r : Record) → ValidRecord r → bytes ≡ encRecord r → Plans (recorded clock epoch bytes plan send h g rows r)
 
@@ -229,7 +228,7 @@ invalidation v vs = push (more (blobString (ascii "invalidate")) (more v vs))
 pub record Readings : Type 0 where
   -- the record's check, its offset, and the record that is read
   pub isRecord : (s : Bytes) → (checkDef s ≡ Fine) ↔ IsRecord s
-  pub offset : (s : Bytes) (o : ℕ) → (checkDef s ≡ Wrong o) ↔ FirstAllowed s o
+  pub offset : (s : Bytes) (o : ℕ) → (checkDef s ≡ Wrong o) ↔ WrongAt s o
   pub record-of : (r : Record) → ValidRecord r → recordAt (encRecord r) ≡ r
   -- the value's test, and the value that is read
   pub value : (s : Bytes) → (isValue s ≡ true) ↔ IsValue s

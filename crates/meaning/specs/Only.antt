@@ -17,8 +17,7 @@ use Rattle.resp3_prefix.specs.Law.{complete-law, least-law, more-law, never-law
 use Rattle.resp3_prefix.specs.declared.Begun.{Begun}
 use Rattle.resp3_prefix.specs.declared.Begun.the-variants.{Lacks}
 use Rattle.call_record.specs.Record.{Record}
-use Rattle.call_record.specs.Offset.{FirstAllowed}
-use Rattle.call_record.specs.Check.{record-one}
+use Rattle.call_record.specs.Check.{record-one, wrong-once, record-right}
 use Rattle.book.specs.Book.{Row, Counts, Keyed}
 use Rattle.arena.specs.Held.{Held}
 use Rattle.sharded_lru.specs.Lent.{setupNow}
@@ -77,21 +76,17 @@ module _ {R : Type 0} (size mode ttl : ℕ) (s : Bytes) (refusal : ℕ → R) (g
 
 -- ---- planning
 
--- an offset that is the first allowed is the only such
-first-one : (s : Bytes) (o p : ℕ) → FirstAllowed s o → FirstAllowed s p → o ≡ p
-first-one s o p a b = let u = a .first p (b .allowed) in let v = b .first o (a .allowed) in omega arith
-
 module _ (clock epoch : ℕ) (bytes plan send : Bytes) (h : Held) (g : Settings) (rows : ℕ → Row) where
   plans-one : {x y : Left} → Plans clock epoch bytes plan send h g rows x → Plans clock epoch bytes plan send h g rows y → x ≡ y
   plans-one (recordTooLong l) (recordTooLong m) = refl
-  plans-one (recordTooLong l) (noRecord m n o f) = absurd (omega arith)
+  plans-one (recordTooLong l) (noRecord m o f) = absurd (omega arith)
   plans-one (recordTooLong l) (ofRecord m r w e) = absurd (omega arith)
-  plans-one (noRecord l n o f) (recordTooLong m) = absurd (omega arith)
-  plans-one (noRecord l n o f) (noRecord m k p d) =
-      ap (λ (i : ℕ). refusal clock epoch bytes plan send h (plannings.wrongAt i)) (first-one bytes o p f d)
-  plans-one (noRecord l n o f) (ofRecord m r w e) = absurd (n (record { value = r; valid = w; bytes = e }))
+  plans-one (noRecord l o f) (recordTooLong m) = absurd (omega arith)
+  plans-one (noRecord l o f) (noRecord m p d) =
+      ap (λ (i : ℕ). refusal clock epoch bytes plan send h (plannings.wrongAt i)) (wrong-once bytes o p f d)
+  plans-one (noRecord l o f) (ofRecord m r w e) = absurd (record-right bytes (record { value = r; valid = w; bytes = e }) o f)
   plans-one (ofRecord l r w e) (recordTooLong m) = absurd (omega arith)
-  plans-one (ofRecord l r w e) (noRecord m n o f) = absurd (n (record { value = r; valid = w; bytes = e }))
+  plans-one (ofRecord l r w e) (noRecord m o f) = absurd (record-right bytes (record { value = r; valid = w; bytes = e }) o f)
   plans-one (ofRecord l r w e) (ofRecord m q v d) = ap (λ (z : Record). recorded clock epoch bytes plan send h g rows z) (record-one bytes r q w v e d)
 
 -- ---- resolving, and a push: a plan's bytes are one plan's, a value's bytes one value's

@@ -99,7 +99,7 @@ module _ (clock epoch : ℕ) (bytes plan send : Bytes) (h : Held) (g : Settings)
       subst (λ r. Plans clock epoch bytes plan send h g rows (recorded clock epoch bytes plan send h g rows r)) (sym (decoded-is bytes w .is))
       (ofRecord l (w .value) (w .valid) (w .bytes))
   judged-means l (Wrong o) e =
-      noRecord l (λ w. let y = sym e ∙ check-fine bytes .1 w in let z : _≡_ {A = ℕ} 0 1 = cc in omega arith) o (check-offset bytes o .0 e)
+      noRecord l o (check-offset bytes o .0 e)
 
   plans-mean : Plans clock epoch bytes plan send h g rows (plannings.admittedTo clock epoch bytes plan send h g rows)
   unfolding plannings.admittedTo

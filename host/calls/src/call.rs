@@ -117,7 +117,7 @@ pub enum Answer {
 pub struct Refusal {
     /// The cause's number, 1 to 11.
     pub cause: u8,
-    /// With cause 2, the first offset that is allowed.
+    /// With cause 2, the offset at which the record goes wrong.
     pub offset: Option<usize>,
 }
 

@@ -7,6 +7,7 @@ pub mod book;
 pub mod commands;
 pub mod config;
 pub mod layout;
+pub mod offset;
 pub mod pack;
 pub mod plan;
 pub mod program;
