@@ -92,10 +92,10 @@ pub argument-length : (with 28 0 ≡ Wrong 32) × (with 29 1 ≡ Wrong 41) × (w
 unfolding check-defs
 argument-length = (refl, refl, refl, refl)
 
--- a cursor has no bytes
-pub cursor-length : with 35 1 ≡ Wrong 36
+-- a cursor has no bytes: its length is wrong at the low byte, and at the high one alone
+pub cursor-length : (with 35 1 ≡ Wrong 36) × (checkDef (set (set (set get 35 1) 36 0) 39 1) ≡ Wrong 39)
 unfolding check-defs
-cursor-length = refl
+cursor-length = (refl, refl)
 
 -- ---- the end
 
