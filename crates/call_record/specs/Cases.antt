@@ -66,10 +66,10 @@ pub command-flags : with 8 4 ≡ Wrong 8
 unfolding check-defs
 command-flags = refl
 
--- a TTL that the flags do not announce
-pub client-ttl : (with 9 1 ≡ Wrong 9) × (with 16 1 ≡ Wrong 16)
+-- a TTL that the flags do not announce, at its first byte that is not 0
+pub client-ttl : (with 9 1 ≡ Wrong 9) × (with 16 1 ≡ Wrong 16) × (checkDef (set (set get 8 3) 11 5) ≡ Wrong 11)
 unfolding check-defs
-client-ttl = (refl, refl)
+client-ttl = (refl, refl, refl)
 
 -- any cursor is right
 pub any-cursor : (with 17 255 ≡ Fine) × (with 24 255 ≡ Fine)

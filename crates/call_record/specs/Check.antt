@@ -143,9 +143,13 @@ wrong-once s o p v w = same o p (not-earlier s o p v w) (not-earlier s p o w v)
     same : (o p : ℕ) → (o < p → ⊥) → (p < o → ⊥) → o ≡ p
     same o p f g = omega arith
 
+-- of a valid record's bytes each front is a front of it
+pub record-begins : (s : Bytes) → IsRecord s → (o : ℕ) → NoneBegins s o → ⊥
+record-begins s w o n = n (w .value) (drop (o + 1) s) (w .valid) (sym (w .bytes) ∙ sym (take-append-drop (o + 1) s))
+
 -- a valid record's bytes go wrong nowhere
 pub record-right : (s : Bytes) → IsRecord s → (o : ℕ) → WrongAt s o → ⊥
-record-right s w o (breaks l b n) = n (w .value) (drop (o + 1) s) (w .valid) (sym (w .bytes) ∙ sym (take-append-drop (o + 1) s))
+record-right s w o (breaks l b n) = record-begins s w o n
 record-right s w o (cutShort h e) =
     let r : recordF .read (encRecord (e .value)) ≡ ok (w .value) (e .rest) =
     ap (recordF .read) (e .bytes ∙ ap (λ (l : Bytes). l ++ e .rest) (w .bytes)) ∙ recordF .complete (w .value) (e .rest) (w .valid) in
