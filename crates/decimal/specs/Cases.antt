@@ -8,15 +8,58 @@ use Rattle.decimal.specs.Read.{crlfB, endedDef, finDef, numDef}
 use Rattle.decimal.specs.declared.Num.{Num}
 use Rattle.decimal.specs.declared.Num.the-variants.{Val, Bad}
 
--- 9999 has 4 digits
-pub digits-of-9999 : length (digits 9999) ≡ 4
-unfolding digits
-digits-of-9999 = refl
+-- the least and the greatest number of so many digits
+abbrev pub Ends : ℕ → ℕ → ℕ → Type 0
+Ends least greatest k = (length (digits least) ≡ k) × (length (digits greatest) ≡ k)
 
--- 10000 has 5 digits
-pub digits-of-10000 : length (digits 10000) ≡ 5
+-- both ends of the twenty ranges by which `countdigits` goes (request 3)
+pub record DigitRanges : Type 0 where
+  pub one : Ends 0 9 1
+  pub two : Ends 10 99 2
+  pub three : Ends 100 999 3
+  pub four : Ends 1_000 9_999 4
+  pub five : Ends 10_000 99_999 5
+  pub six : Ends 100_000 999_999 6
+  pub seven : Ends 1_000_000 9_999_999 7
+  pub eight : Ends 10_000_000 99_999_999 8
+  pub nine : Ends 100_000_000 999_999_999 9
+  pub ten : Ends 1_000_000_000 9_999_999_999 10
+  pub eleven : Ends 10_000_000_000 99_999_999_999 11
+  pub twelve : Ends 100_000_000_000 999_999_999_999 12
+  pub thirteen : Ends 1_000_000_000_000 9_999_999_999_999 13
+  pub fourteen : Ends 10_000_000_000_000 99_999_999_999_999 14
+  pub fifteen : Ends 100_000_000_000_000 999_999_999_999_999 15
+  pub sixteen : Ends 1_000_000_000_000_000 9_999_999_999_999_999 16
+  pub seventeen : Ends 10_000_000_000_000_000 99_999_999_999_999_999 17
+  pub eighteen : Ends 100_000_000_000_000_000 999_999_999_999_999_999 18
+  pub nineteen : Ends 1_000_000_000_000_000_000 9_999_999_999_999_999_999 19
+  pub twenty : Ends 10_000_000_000_000_000_000 18_446_744_073_709_551_615 20
+
+pub digit-ranges : DigitRanges
 unfolding digits
-digits-of-10000 = refl
+digit-ranges =
+    record {
+      one = (refl, refl);
+      two = (refl, refl);
+      three = (refl, refl);
+      four = (refl, refl);
+      five = (refl, refl);
+      six = (refl, refl);
+      seven = (refl, refl);
+      eight = (refl, refl);
+      nine = (refl, refl);
+      ten = (refl, refl);
+      eleven = (refl, refl);
+      twelve = (refl, refl);
+      thirteen = (refl, refl);
+      fourteen = (refl, refl);
+      fifteen = (refl, refl);
+      sixteen = (refl, refl);
+      seventeen = (refl, refl);
+      eighteen = (refl, refl);
+      nineteen = (refl, refl);
+      twenty = (refl, refl);
+    }
 
 -- what a limit of 20 makes of bytes and a CR LF
 reads : List ℕ → Num

@@ -71,20 +71,10 @@ ten-pos : (k : ℕ) → 0 < 10 ^ k
 ten-pos zero = omega arith
 ten-pos (suc k) = let r = ten-pos k in omega arith
 
--- a number from 10^k up to below 10^(k + 1) has k + 1 digits
-pub count-is : (k n : ℕ) → 10 ^ k ≤ n → n < 10 ^ suc k → length (digits n) ≡ suc k
-count-is zero n l h = count-one n h
-count-is (suc k) n l h =
+-- a number from 10^k on has at least k + 1 digits
+pub count-from : (k n : ℕ) → 10 ^ k ≤ n → suc k ≤ length (digits n)
+count-from zero n h = count-pos n
+count-from (suc k) n h =
     let m = count-more n (omega (arith, ten-pos k)) in
-    let r = count-is k (n / 10) (omega arith) (omega arith) in
+    let r = count-from k (n / 10) (omega arith) in
     omega arith
-
--- from ten thousand on there are four digits more than in the ten thousandth part
-pub count-four : (n : ℕ) → 10000 ≤ n → length (digits n) ≡ length (digits (n / 10000)) + 4
-count-four n h =
-    let a = count-more n (omega arith) in
-    let b = count-more (n / 10) (omega arith) in
-    let c = count-more (n / 10 / 10) (omega arith) in
-    let d = count-more (n / 10 / 10 / 10) (omega arith) in
-    let e : n / 10 / 10 / 10 / 10 ≡ n / 10000 = omega arith in
-    rw (← e) (omega arith)

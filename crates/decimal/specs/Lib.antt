@@ -1,5 +1,6 @@
 pub mod Digits
 pub mod DigitLaws
+pub mod Ranges
 pub mod Read
 pub mod ReadLaws
 pub mod NumLaw

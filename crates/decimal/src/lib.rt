@@ -1,34 +1,75 @@
 // A u64 in decimal digits: how many there are, the digits written, and canonical digits with their CR LF read back.
-// specs/Digits.antt says what a number's digits are, specs/Read.antt what reading finds.
+// specs/Digits.antt says what a number's digits are, specs/Ranges.antt which numbers have so many, specs/Read.antt what reading finds.
 ghost use mathlib.Core.Path.{_≡_};
 ghost use Prim.Native.Nat.{_+_, _≤_};
+ghost use lib.Dec.{ltb};
 ghost use lib.ListN.{length, getD};
 ghost use Rattle.buffer.specs.Part.{put};
 ghost use Rattle.decimal.specs.Digits.{digits};
+ghost use Rattle.decimal.specs.Ranges.{Holds};
 ghost use Rattle.decimal.specs.Read.{digitB, crlfB, endedDef, numDef};
 
-// How many digits v has. (cmd.rs)
+// The least and the greatest number of so many digits.
+struct Range(u64, u64);
+
+// The numbers of n digits: twenty ranges, which together are all numbers of 64 bits. The last is that of 20.
+fn range_of(n: usize) -> Range
+    requires { ⌜ (1 ≤ n) × (n ≤ 20) ⌝ }
+    ensures { λ r. ⌜ Holds n (r .0) (r .1) ⌝ }
+{
+    match n {
+        1 => Range(0, 9),
+        2 => Range(10, 99),
+        3 => Range(100, 999),
+        4 => Range(1_000, 9_999),
+        5 => Range(10_000, 99_999),
+        6 => Range(100_000, 999_999),
+        7 => Range(1_000_000, 9_999_999),
+        8 => Range(10_000_000, 99_999_999),
+        9 => Range(100_000_000, 999_999_999),
+        10 => Range(1_000_000_000, 9_999_999_999),
+        11 => Range(10_000_000_000, 99_999_999_999),
+        12 => Range(100_000_000_000, 999_999_999_999),
+        13 => Range(1_000_000_000_000, 9_999_999_999_999),
+        14 => Range(10_000_000_000_000, 99_999_999_999_999),
+        15 => Range(100_000_000_000_000, 999_999_999_999_999),
+        16 => Range(1_000_000_000_000_000, 9_999_999_999_999_999),
+        17 => Range(10_000_000_000_000_000, 99_999_999_999_999_999),
+        18 => Range(100_000_000_000_000_000, 999_999_999_999_999_999),
+        19 => Range(1_000_000_000_000_000_000, 9_999_999_999_999_999_999),
+        _ => Range(10_000_000_000_000_000_000, 18_446_744_073_709_551_615),
+    }
+}
+
+// Whether v has more than n digits: it lies beyond their range.
+fn has_more(v: u64, n: usize) -> bool
+    requires { ⌜ (1 ≤ n) × (n ≤ 20) ⌝ }
+    ensures { λ r. ⌜ r ≡ ltb n (length (digits v)) ⌝ }
+{
+    range_of(n).1 < v
+}
+
+// How many digits v has (cmd.rs), by going up the ranges. Most numbers are lengths of a few digits: up to four it needs no loop.
 pub fn countdigits(v: u64) -> usize
     ensures { λ r. ⌜ r ≡ length (digits v) ⌝ }
 {
-    let mut w = v;
-    let mut result: usize = 1;
-    loop {
-        if w < 10 {
-            return result;
-        }
-        if w < 100 {
-            return result + 1;
-        }
-        if w < 1000 {
-            return result + 2;
-        }
-        if w < 10000 {
-            return result + 3;
-        }
-        w /= 10000;
-        result += 4;
+    if !has_more(v, 1) {
+        return 1;
     }
+    if !has_more(v, 2) {
+        return 2;
+    }
+    if !has_more(v, 3) {
+        return 3;
+    }
+    if !has_more(v, 4) {
+        return 4;
+    }
+    let mut n = 5;
+    while has_more(v, n) {
+        n += 1;
+    }
+    n
 }
 
 // Writes v's digits at `at`, and answers the place after them.

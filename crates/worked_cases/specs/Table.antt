@@ -16,7 +16,7 @@ use Rattle.config.specs.declared.CacheMode.the-variants.{All}
 use Rattle.config.specs.declared.CheckedConfig.{CheckedConfig}
 use Rattle.config.specs.declared.CheckedConfig.the-variants.{Fine}
 use Rattle.decimal.specs.Digits.{digits}
-use Rattle.decimal.specs.Cases.{digits-of-9999, digits-of-10000}
+use Rattle.decimal.specs.Cases.{DigitRanges, digit-ranges}
 use Rattle.resp3.specs.Value.{depth, encode}
 use Rattle.resp3.specs.Ends.{isValue}
 use Rattle.resp3.specs.Cases.{nested, depth-16-read, depth-17-refused}
@@ -126,6 +126,8 @@ pub record Table : Type 0 where
   -- 9999 has four digits, 10000 five
   pub four-digits : length (digits 9999) ≡ 4
   pub five-digits : length (digits 10000) ≡ 5
+  -- and both ends of each of the twenty ranges of a 64-bit number (request 3)
+  pub ranges-of-digits : DigitRanges
   -- a key of 3, a command key of 6 and a value of 7 bytes take 64: one item and 64 bytes used, in a shard of 80, 16 of them its header; in 79 there is no space
   pub sixty-four : (storedIn 80 .cause ≡ 0) × (take 8 (storedIn 80 .held .arena) ≡ 1 ∷ 0 ∷ 0 ∷ 0 ∷ 64 ∷ 0 ∷ 0 ∷ 0 ∷ [])
   pub sixty-three : (storedIn 79 .cause ≡ 11) × (storedIn 79 .held ≡ freshIn 79)
@@ -152,8 +154,9 @@ table =
       pttl-minus-1 = refl;
       three-taken = refl;
       third-null = refl;
-      four-digits = digits-of-9999;
-      five-digits = digits-of-10000;
+      four-digits = digit-ranges .four .1;
+      five-digits = digit-ranges .five .0;
+      ranges-of-digits = digit-ranges;
       sixty-four = singles.sixty-four;
       sixty-three = singles.no-space;
       depth-16 = depth-16-read;

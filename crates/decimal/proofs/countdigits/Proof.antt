@@ -1,52 +1,100 @@
--- `decimal::countdigits` meets its contract. What is counted and what is left of v make up the whole count, which is at most 20.
--- Assumes nothing.
-use Prim.Native.Nat.{_+_}
-use mathlib.Core.Path.{_≡_}
+-- `decimal::countdigits` meets its contract: v has as many digits as the range that is looked at, or more. Assumes nothing.
+use mathlib.Core.Path.{_≡_, sym, _∙_}
+use mathlib.Core.Bool.{Bool, true, false}
+use Prim.Native.Nat.{ℕ, _-_, _≤_, _<_}
 use native.Mathlib.Omega.{arith}
+use lib.Dec.{ltb}
 use lib.ListN.{length}
+use borrow.Author.Needs.{needs}
+use borrow.Author.Tests.{ltb-true, ltb-false, not-true, not-false}
 use Rattle.decimal.specs.Digits.{digits}
-use Rattle.decimal.specs.DigitLaws.{count-one, count-is, count-max, count-four}
+use Rattle.decimal.specs.DigitLaws.{count-pos, count-max}
 use Rattle.decimal.proofs.countdigits.Statement.{statement}
 use Rattle.decimal.proofs.countdigits.Tie as tie
 
 abbrev Inv-loop : tie.InvT-loop
-Inv-loop v w₀ result₀ w result = length (digits v) + 1 ≡ result + length (digits w)
+Inv-loop v n₀ n = (1 ≤ n) × (n ≤ length (digits v)) × (length (digits v) ≤ 20)
 
 abbrev μ-loop : tie.MeasureT-loop
-μ-loop v w₀ result₀ w result = w
+μ-loop v n₀ n = 20 - n
 
-loop-holds : tie.Need-loop-holds Inv-loop μ-loop
-loop-holds c = omega arith
+-- what the answers of `has_more` say
+more : (v n : ℕ) {r : Bool} → r ≡ ltb n (length (digits v)) → r ≡ true → n < length (digits v)
+more v n e t = ltb-true n _ (sym e ∙ t)
+
+no-more : (v n : ℕ) {r : Bool} → r ≡ ltb n (length (digits v)) → r ≡ false → length (digits v) ≤ n
+no-more v n e t = ltb-false n _ (sym e ∙ t)
+
+has-more-requires : tie.Need-has-more-requires Inv-loop μ-loop
+has-more-requires c κs = search needs
 
 returns : tie.Need-returns Inv-loop μ-loop
-returns c = omega (arith, count-one (c .before .loop .w) (c .if1 .taken))
+returns c =
+    let v = c .before .before .args .v in
+    let l = count-pos v in
+    let h = no-more v 1 (c .before .has-more .ensures) (not-true _ (c .if1 .taken)) in
+    omega arith
 
-add-result : tie.Need-add-result Inv-loop μ-loop
-add-result c = omega (arith, count-max (c .before .before .before .args .v) (omega arith))
+has-more-requires-2 : tie.Need-has-more-requires-2 Inv-loop μ-loop
+has-more-requires-2 c κs = search needs
 
 returns-2 : tie.Need-returns-2 Inv-loop μ-loop
-returns-2 c = omega (arith, count-is 1 (c .before .before .loop .w) (omega arith) (omega arith))
+returns-2 c =
+    let v = c .before .before .before .before .args .v in
+    let l = more v 1 (c .before .before .before .has-more .ensures) (not-false _ (c .before .before .if1 .left)) in
+    let h = no-more v 2 (c .before .has-more2 .ensures) (not-true _ (c .if2 .taken)) in
+    omega arith
 
-add-result-2 : tie.Need-add-result-2 Inv-loop μ-loop
-add-result-2 c = omega (arith, count-max (c .before .before .before .before .args .v) (omega arith))
+has-more-requires-3 : tie.Need-has-more-requires-3 Inv-loop μ-loop
+has-more-requires-3 c κs = search needs
 
 returns-3 : tie.Need-returns-3 Inv-loop μ-loop
-returns-3 c = omega (arith, count-is 2 (c .before .before .before .loop .w) (omega arith) (omega arith))
+returns-3 c =
+    let v = c .before .before .before .before .before .before .args .v in
+    let l = more v 2 (c .before .before .before .has-more2 .ensures) (not-false _ (c .before .before .if2 .left)) in
+    let h = no-more v 3 (c .before .has-more3 .ensures) (not-true _ (c .if3 .taken)) in
+    omega arith
 
-add-result-3 : tie.Need-add-result-3 Inv-loop μ-loop
-add-result-3 c = omega (arith, count-max (c .before .before .before .before .before .args .v) (omega arith))
+has-more-requires-4 : tie.Need-has-more-requires-4 Inv-loop μ-loop
+has-more-requires-4 c κs = search needs
 
 returns-4 : tie.Need-returns-4 Inv-loop μ-loop
-returns-4 c = omega (arith, count-is 3 (c .before .before .before .before .loop .w) (omega arith) (omega arith))
+returns-4 c =
+    let v = c .before .before .before .before .before .before .before .before .args .v in
+    let l = more v 3 (c .before .before .before .has-more3 .ensures) (not-false _ (c .before .before .if3 .left)) in
+    let h = no-more v 4 (c .before .has-more4 .ensures) (not-true _ (c .if4 .taken)) in
+    omega arith
 
-add-result-4 : tie.Need-add-result-4 Inv-loop μ-loop
-add-result-4 c = omega (arith, count-max (c .before .before .before .before .before .args .v) (omega arith))
+loop-holds : tie.Need-loop-holds Inv-loop μ-loop
+loop-holds c =
+    let v = c .before .before .before .before .before .before .before .before .args .v in
+    (omega arith, more v 4 (c .before .has-more4 .ensures) (not-false _ (c .if4 .left)), count-max v (omega arith))
+
+has-more-requires-5 : tie.Need-has-more-requires-5 Inv-loop μ-loop
+has-more-requires-5 c κs = let i = c .loop .inv in (omega arith, omega arith)
+
+-- in the loop, v has more digits than n
+beyond : (c : tie.Then5 Inv-loop μ-loop)
+    → c .before .before .loop .n < length (digits (c .before .before .before .before .before .before .before .before .before .before .before .args .v))
+beyond c =
+    more (c .before .before .before .before .before .before .before .before .before .before .before .args .v) (c .before .before .loop .n)
+    (c .before .has-more5 .ensures) (c .if5 .taken)
+
+add-n : tie.Need-add-n Inv-loop μ-loop
+add-n c = let i = c .before .before .loop .inv in let h = beyond c in omega arith
 
 loop-less : tie.Need-loop-less Inv-loop μ-loop
-loop-less c = omega arith
+loop-less c = let i = c .before .before .loop .inv in let h = beyond c in omega arith
 
 loop-again : tie.Need-loop-again Inv-loop μ-loop
-loop-again c = omega (arith, count-four (c .before .before .before .before .loop .w) (omega arith))
+loop-again c = let i = c .before .before .loop .inv in let h = beyond c in (omega arith, omega arith, i .2)
+
+returns-5 : tie.Need-returns-5 Inv-loop μ-loop
+returns-5 c =
+    let i = c .before .before .loop .inv in
+    let h = no-more (c .before .before .before .before .before .before .before .before .before .before .before .args .v) (c .before .before .loop .n)
+    (c .before .has-more5 .ensures) (c .if5 .left) in
+    omega arith
 
 pub countdigits-spec : {M : Type 1} → statement M
 countdigits-spec =
@@ -54,14 +102,17 @@ countdigits-spec =
     (tie.spec
     Inv-loop
     μ-loop
-    loop-holds
+    has-more-requires
     returns
-    add-result
+    has-more-requires-2
     returns-2
-    add-result-2
+    has-more-requires-3
     returns-3
-    add-result-3
+    has-more-requires-4
     returns-4
-    add-result-4
+    loop-holds
+    has-more-requires-5
+    add-n
     loop-less
-    loop-again)
+    loop-again
+    returns-5)
