@@ -49,7 +49,7 @@ fn has_more(v: u64, n: usize) -> bool
     range_of(n).1 < v
 }
 
-// How many digits v has (cmd.rs), by going up the ranges. Most numbers are lengths of a few digits: up to four it needs no loop.
+// How many digits v has (cmd.rs), by the ranges: up to four digits, which most numbers have, one after the other, and then down from the last.
 pub fn countdigits(v: u64) -> usize
     ensures { λ r. ⌜ r ≡ length (digits v) ⌝ }
 {
@@ -65,9 +65,9 @@ pub fn countdigits(v: u64) -> usize
     if !has_more(v, 4) {
         return 4;
     }
-    let mut n = 5;
-    while has_more(v, n) {
-        n += 1;
+    let mut n = 20;
+    while !has_more(v, n - 1) {
+        n -= 1;
     }
     n
 }

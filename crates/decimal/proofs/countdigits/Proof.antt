@@ -1,4 +1,5 @@
--- `decimal::countdigits` meets its contract: v has as many digits as the range that is looked at, or more. Assumes nothing.
+-- `decimal::countdigits` meets its contract: on the way up v has as many digits as the range that is looked at or more, on the way down as many or fewer. Assumes
+-- nothing.
 use mathlib.Core.Path.{_≡_, sym, _∙_}
 use mathlib.Core.Bool.{Bool, true, false}
 use Prim.Native.Nat.{ℕ, _-_, _≤_, _<_}
@@ -13,10 +14,10 @@ use Rattle.decimal.proofs.countdigits.Statement.{statement}
 use Rattle.decimal.proofs.countdigits.Tie as tie
 
 abbrev Inv-loop : tie.InvT-loop
-Inv-loop v n₀ n = (1 ≤ n) × (n ≤ length (digits v)) × (length (digits v) ≤ 20)
+Inv-loop v n₀ n = (4 < length (digits v)) × (length (digits v) ≤ n) × (n ≤ 20)
 
 abbrev μ-loop : tie.MeasureT-loop
-μ-loop v n₀ n = 20 - n
+μ-loop v n₀ n = n
 
 -- what the answers of `has_more` say
 more : (v n : ℕ) {r : Bool} → r ≡ ltb n (length (digits v)) → r ≡ true → n < length (digits v)
@@ -68,32 +69,32 @@ returns-4 c =
 loop-holds : tie.Need-loop-holds Inv-loop μ-loop
 loop-holds c =
     let v = c .before .before .before .before .before .before .before .before .args .v in
-    (omega arith, more v 4 (c .before .has-more4 .ensures) (not-false _ (c .if4 .left)), count-max v (omega arith))
+    (more v 4 (c .before .has-more4 .ensures) (not-false _ (c .if4 .left)), count-max v (omega arith), omega arith)
+
+sub-has-more : tie.Need-sub-has-more Inv-loop μ-loop
+sub-has-more c = let i = c .loop .inv in omega arith
 
 has-more-requires-5 : tie.Need-has-more-requires-5 Inv-loop μ-loop
 has-more-requires-5 c κs = let i = c .loop .inv in (omega arith, omega arith)
 
--- in the loop, v has more digits than n
-beyond : (c : tie.Then5 Inv-loop μ-loop)
-    → c .before .before .loop .n < length (digits (c .before .before .before .before .before .before .before .before .before .before .before .args .v))
-beyond c =
-    more (c .before .before .before .before .before .before .before .before .before .before .before .args .v) (c .before .before .loop .n)
-    (c .before .has-more5 .ensures) (c .if5 .taken)
-
-add-n : tie.Need-add-n Inv-loop μ-loop
-add-n c = let i = c .before .before .loop .inv in let h = beyond c in omega arith
+sub-n : tie.Need-sub-n Inv-loop μ-loop
+sub-n c = let i = c .before .before .loop .inv in omega arith
 
 loop-less : tie.Need-loop-less Inv-loop μ-loop
-loop-less c = let i = c .before .before .loop .inv in let h = beyond c in omega arith
+loop-less c = let i = c .before .before .loop .inv in omega arith
 
 loop-again : tie.Need-loop-again Inv-loop μ-loop
-loop-again c = let i = c .before .before .loop .inv in let h = beyond c in (omega arith, omega arith, i .2)
+loop-again c =
+    let i = c .before .before .loop .inv in
+    let h = no-more (c .before .before .before .before .before .before .before .before .before .before .before .args .v) (c .before .before .loop .n - 1)
+    (c .before .has-more5 .ensures) (not-true _ (c .if5 .taken)) in
+    (i .0, h, omega arith)
 
 returns-5 : tie.Need-returns-5 Inv-loop μ-loop
 returns-5 c =
     let i = c .before .before .loop .inv in
-    let h = no-more (c .before .before .before .before .before .before .before .before .before .before .before .args .v) (c .before .before .loop .n)
-    (c .before .has-more5 .ensures) (c .if5 .left) in
+    let h = more (c .before .before .before .before .before .before .before .before .before .before .before .args .v) (c .before .before .loop .n - 1)
+    (c .before .has-more5 .ensures) (not-false _ (c .if5 .left)) in
     omega arith
 
 pub countdigits-spec : {M : Type 1} → statement M
@@ -111,8 +112,9 @@ countdigits-spec =
     has-more-requires-4
     returns-4
     loop-holds
+    sub-has-more
     has-more-requires-5
-    add-n
+    sub-n
     loop-less
     loop-again
     returns-5)
