@@ -1,7 +1,7 @@
 -- `decimal::countdigits` meets its contract: on the way up v has as many digits as the range that is looked at or more, on the way down as many or fewer. Assumes
 -- nothing.
 use mathlib.Core.Path.{_≡_, sym, _∙_}
-use mathlib.Core.Bool.{Bool, true, false}
+use mathlib.Core.Bool.{Bool, true, false, not}
 use Prim.Native.Nat.{ℕ, _-_, _≤_, _<_}
 use native.Mathlib.Omega.{arith}
 use lib.Dec.{ltb}
@@ -26,45 +26,39 @@ more v n e t = ltb-true n _ (sym e ∙ t)
 no-more : (v n : ℕ) {r : Bool} → r ≡ ltb n (length (digits v)) → r ≡ false → length (digits v) ≤ n
 no-more v n e t = ltb-false n _ (sym e ∙ t)
 
+-- on the way up it stops where v has n digits or more, and no more than n
+stops : (v n : ℕ) {r : Bool} → n ≤ length (digits v) → r ≡ ltb n (length (digits v)) → not r ≡ true → n ≡ length (digits v)
+stops v n l e t = let h = no-more v n e (not-true _ t) in omega arith
+
 has-more-requires : tie.Need-has-more-requires Inv-loop μ-loop
 has-more-requires c κs = search needs
 
 returns : tie.Need-returns Inv-loop μ-loop
-returns c =
-    let v = c .before .before .args .v in
-    let l = count-pos v in
-    let h = no-more v 1 (c .before .has-more .ensures) (not-true _ (c .if1 .taken)) in
-    omega arith
+returns c = stops _ 1 (count-pos _) (c .before .has-more .ensures) (c .if1 .taken)
 
 has-more-requires-2 : tie.Need-has-more-requires-2 Inv-loop μ-loop
 has-more-requires-2 c κs = search needs
 
 returns-2 : tie.Need-returns-2 Inv-loop μ-loop
 returns-2 c =
-    let v = c .before .before .before .before .args .v in
-    let l = more v 1 (c .before .before .before .has-more .ensures) (not-false _ (c .before .before .if1 .left)) in
-    let h = no-more v 2 (c .before .has-more2 .ensures) (not-true _ (c .if2 .taken)) in
-    omega arith
+    stops _ 2 (more _ 1 (c .before .before .before .has-more .ensures) (not-false _ (c .before .before .if1 .left))) (c .before .has-more2 .ensures)
+    (c .if2 .taken)
 
 has-more-requires-3 : tie.Need-has-more-requires-3 Inv-loop μ-loop
 has-more-requires-3 c κs = search needs
 
 returns-3 : tie.Need-returns-3 Inv-loop μ-loop
 returns-3 c =
-    let v = c .before .before .before .before .before .before .args .v in
-    let l = more v 2 (c .before .before .before .has-more2 .ensures) (not-false _ (c .before .before .if2 .left)) in
-    let h = no-more v 3 (c .before .has-more3 .ensures) (not-true _ (c .if3 .taken)) in
-    omega arith
+    stops _ 3 (more _ 2 (c .before .before .before .has-more2 .ensures) (not-false _ (c .before .before .if2 .left))) (c .before .has-more3 .ensures)
+    (c .if3 .taken)
 
 has-more-requires-4 : tie.Need-has-more-requires-4 Inv-loop μ-loop
 has-more-requires-4 c κs = search needs
 
 returns-4 : tie.Need-returns-4 Inv-loop μ-loop
 returns-4 c =
-    let v = c .before .before .before .before .before .before .before .before .args .v in
-    let l = more v 3 (c .before .before .before .has-more3 .ensures) (not-false _ (c .before .before .if3 .left)) in
-    let h = no-more v 4 (c .before .has-more4 .ensures) (not-true _ (c .if4 .taken)) in
-    omega arith
+    stops _ 4 (more _ 3 (c .before .before .before .has-more3 .ensures) (not-false _ (c .before .before .if3 .left))) (c .before .has-more4 .ensures)
+    (c .if4 .taken)
 
 loop-holds : tie.Need-loop-holds Inv-loop μ-loop
 loop-holds c =
