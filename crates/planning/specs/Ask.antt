@@ -102,11 +102,16 @@ askOne (a ∷ []) x = uncacheable
 askOne (a ∷ (simple k ∷ l)) x = oneKey k x
 askOne (a ∷ (cursor ∷ l)) x = uncacheable
 
+-- several keys; a command without any is not cacheable (request 4: the server is to say that its arguments are too few)
+unfoldable pub askSeveral : Bytes → List Bytes → List Bytes → ℕ → Ask
+askSeveral n [] path x = uncacheable
+askSeveral n (k ∷ ks) path x = severalKeys n (k ∷ ks) path x
+
 -- by the name: `MGET` asks for everything behind it (rule P5), `JSON.MGET` too but for the last, its path (rule P6), any other cacheable name for its one
 -- key (rule P7)
 unfoldable pub askBy : MultiKey → Bytes → List Argument → ℕ → Ask
-askBy Mget n l x = severalKeys n (afterName l) [] x
-askBy JsonMget n l x = severalKeys n (butLast (afterName l)) (lastOnly (afterName l)) x
+askBy Mget n l x = askSeveral n (afterName l) [] x
+askBy JsonMget n l x = askSeveral n (butLast (afterName l)) (lastOnly (afterName l)) x
 askBy None n l x = cond (isCacheable n) (askOne l x) uncacheable
 
 -- by how far the command gets
@@ -120,5 +125,5 @@ ask g t c = askFrom (reach (g .mode) c) (c .args) (clientExpiry g t c)
 
 -- one name that opens every definition of this page, for cases that compute
 unfoldable pub ask-defs : Unit {0}
-unfolding takesPart reachBy reach clientExpiry pastEnd anyLate simples afterName butLast lastOnly askOne askBy askFrom ask
+unfolding takesPart reachBy reach clientExpiry pastEnd anyLate simples afterName butLast lastOnly askOne askSeveral askBy askFrom ask
 ask-defs = tt

@@ -72,14 +72,10 @@ case-defs = tt
 
 -- ---- cases of the joint table (crate worked_cases)
 
--- `JSON.MGET k` is cached, an array of nothing: `*0`; nothing is looked up
-pub json-mget-k : result all 5 (plain (word "JSON.MGET" ∷ word "k" ∷ [])) [] ≡ item (cached (values []))
+-- `JSON.MGET k` has a path and no key: not cacheable, and nothing is looked up (request 4)
+pub json-mget-k : result all 5 (plain (word "JSON.MGET" ∷ word "k" ∷ [])) [] ≡ item notCacheable
 unfolding case-defs
 json-mget-k = refl
-
-pub json-mget-k-bytes : servedBytes (values []) ≡ ascii "*0\r\n"
-unfolding case-defs
-json-mget-k-bytes = refl
 
 pub json-mget-k-looks : looks all 5 (plain (word "JSON.MGET" ∷ word "k" ∷ [])) ≡ []
 unfolding case-defs
@@ -230,10 +226,26 @@ pub several-missing :
 unfolding case-defs
 several-missing = refl
 
--- `MGET` without keys, or of a cursor alone, is cached
-pub no-keys : result all 5 (plain (word "MGET" ∷ cursor ∷ [])) [] ≡ item (cached (values []))
+-- `MGET` or `JSON.MGET` alone, or with cursors, has no key; a cursor is no path either
+pub no-keys :
+    (result all 5 (plain (word "MGET" ∷ [])) [] ≡ item notCacheable)
+    × (result all 5 (plain (word "MGET" ∷ cursor ∷ cursor ∷ [])) [] ≡ item notCacheable)
+    × (result all 5 (plain (word "JSON.MGET" ∷ [])) [] ≡ item notCacheable)
+    × (result all 5 (plain (word "JSON.MGET" ∷ cursor ∷ word "k" ∷ cursor ∷ [])) [] ≡ item notCacheable)
 unfolding case-defs
-no-keys = refl
+no-keys = (refl, refl, refl, refl)
+
+-- a key of no bytes is one, and a path of no bytes is one
+pub empty-parts :
+    (looks all 5 (plain (word "MGET" ∷ word "" ∷ [])) ≡ under "" "GET" ∷ [])
+    × (looks all 5 (plain (word "JSON.MGET" ∷ word "" ∷ word "" ∷ [])) ≡ under "" "JSON.GET" ∷ [])
+unfolding case-defs
+empty-parts = (refl, refl)
+
+-- cause 4 is judged for a command without keys as for any other with a name
+pub no-keys-late : anyLate all 18446744073709551615 (plain (word "MGET" ∷ []) ∷ []) ≡ true
+unfolding case-defs
+no-keys-late = refl
 
 -- ---- several commands: the lookups stand in the commands' order
 

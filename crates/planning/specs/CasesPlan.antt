@@ -35,7 +35,7 @@ pub one-node : rows (plain get-a ∷ plain get-a ∷ []) (miss ∷ hit u ∷ [])
 unfolding plan-case-defs
 one-node = refl
 
--- several, one of them served; several, all of them served; none at all
+-- several, one of them served; several, all of them served; none at all, which is handed on
 pub several-nodes :
     rows (plain (word "MGET" ∷ word "a" ∷ word "b" ∷ []) ∷ plain get-a ∷ []) (miss ∷ hit u ∷ hit u ∷ [])
     ≡ several 2 ∷ waitingPlace (under "a" "GETa") 1800005 ∷ servedValue u ∷ endOfSeveral ∷ servedValue u ∷ []
@@ -46,7 +46,7 @@ pub served-nodes : rows (plain (word "MGET" ∷ word "a" ∷ word "b" ∷ []) �
 unfolding plan-case-defs
 served-nodes = refl
 
-pub no-places : rows (plain (word "JSON.MGET" ∷ word "k" ∷ []) ∷ []) [] ≡ allServed 0 ∷ []
+pub no-places : rows (plain (word "JSON.MGET" ∷ word "k" ∷ []) ∷ []) [] ≡ handOn ∷ []
 unfolding plan-case-defs
 no-places = refl
 

@@ -23,7 +23,7 @@ use Rattle.book.specs.Book.{Answer, hit, miss, stored, noSpace, invalidated, nu
 use Rattle.book.specs.Calls.{Wanted}
 use borrow.Author.Tests.{leb-false}
 use Rattle.planning.specs.Ask.{Reach, skipped, stopped, named, pastEnd, reach, clientExpiry, anyLate, afterName, butLast, lastOnly}
-use Rattle.planning.specs.Ask.{askOne, askBy, askFrom, Ask, severalKeys, ask}
+use Rattle.planning.specs.Ask.{askOne, askSeveral, askBy, askFrom, Ask, severalKeys, ask}
 use Rattle.planning.specs.Outcome.{Place, filled, waiting, item, asSimple, wholeKey, partKeys, wants, placeBy, place, places, servedValues}
 use Rattle.planning.specs.Outcome.{singleItem, multipleItem, missing, outcome, outcomes}
 use Rattle.planning.specs.Plan.{endOfSeveral, valueNodes, placeNodes, servedNodes, missingNodes, nodesOf, nodes, planOf}
@@ -167,18 +167,25 @@ module _ (c : Command) (said : List Answer) (fine : All GoodAnswer said) (x : �
       let j = places-count said ws in
       multiple-nodes (missing (places said ws)) n (places said ws) path x fits (places-good said ws fine (parts-good n path ks q h)) (omega arith)
 
+  -- if there are any
+  asked-several-nodes : (n : Bytes) (ks path : List Bytes) → All Short ks → length ks ≤ maxArguments → Short (commandKey (asSimple path))
+      → All GoodNode (nodesOf (outcome c (askSeveral n ks path x) said))
+  unfolding askSeveral
+  asked-several-nodes n [] path h g q = unfold outcome in unfold nodesOf in unfold GoodNode in (tt, tt)
+  asked-several-nodes n (k ∷ ks) path h g q = several-nodes n (k ∷ ks) path h g q
+
   -- by the name
   named-nodes : (m : MultiKey) (n : Bytes) → All ValidArgument (c .args) → length (c .args) ≤ maxArguments → length (commandKey (c .args)) ≤ maxCommandKey
       → All GoodNode (nodesOf (outcome c (askBy m n (c .args) x) said))
   unfolding askBy
   named-nodes Mget n h g b =
       let i = after-count (c .args) in
-      several-nodes n (afterName (c .args)) [] (after-short (c .args) h) (omega arith) (unfold commandKey asSimple in omega arith)
+      asked-several-nodes n (afterName (c .args)) [] (after-short (c .args) h) (omega arith) (unfold commandKey asSimple in omega arith)
   named-nodes JsonMget n h g b =
       let i = after-count (c .args) in
       let j = but-last-count (afterName (c .args)) in
       let s = after-short (c .args) h in
-      several-nodes n (butLast (afterName (c .args))) (lastOnly (afterName (c .args))) (but-last-short (afterName (c .args)) s) (omega arith)
+      asked-several-nodes n (butLast (afterName (c .args))) (lastOnly (afterName (c .args))) (but-last-short (afterName (c .args)) s) (omega arith)
       (last-short (afterName (c .args)) s)
   named-nodes None n h g b =
       byTest (isCacheable n) (λ e. rw e (one-nodes (c .args) h b)) (λ e. rw e (unfold outcome in unfold nodesOf in unfold GoodNode in (tt, tt)))

@@ -18,6 +18,8 @@ use Rattle.planning_ask.specs.declared.Reached.{Reached}
 use Rattle.planning_ask.specs.declared.Reached.the-variants.{Skipped, Stopped, Named}
 use Rattle.planning_ask.specs.declared.SimpleArgs.{SimpleArgs}
 use Rattle.planning_ask.specs.declared.Several.{Several}
+use Rattle.planning_ask.specs.declared.Asked.{Asked}
+use Rattle.planning_ask.specs.declared.Asked.the-variants.{Uncacheable, SeveralKeys}
 
 -- ---- what the smaller functions answer
 
@@ -56,6 +58,10 @@ pub record SeveralOf (s : Bytes) (l : List Argument) (json : Bool) (v : Several)
   pub inside : SeveralIn s v
   pub keys : keysIn s v ≡ cond json (plan.butLast (plan.afterName l)) (plan.afterName l)
   pub path : pathIn s v ≡ cond json (plan.lastOnly (plan.afterName l)) []
+
+-- several keys are asked for, if there are any
+abbrev pub askedSeveral : Several → ℕ → Asked
+askedSeveral v x = cond (eqb (v .keys) 0) Uncacheable (SeveralKeys v x)
 
 -- the first argument is a name
 unfoldable pub HasName : List Argument → Type 0

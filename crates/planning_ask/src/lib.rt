@@ -15,7 +15,7 @@ ghost use Rattle.cursor.specs.At.{rangeBytes, RangeIn, argsOf, ArgsHere, comman
 ghost use Rattle.cursor.specs.Steps.{argNext};
 ghost use Rattle.planning.specs.Ask as plan;
 ghost use Rattle.planning_ask.specs.Asked.{reachedOf, ReachedIn, late, OnTime, simplesOf, KeyStep, askedOf, AskedIn};
-ghost use Rattle.planning_ask.specs.Steps.{takesPartBy, ttlBy, lateBy, withArgument, Extracted, SeveralOf, HasName, askNamed};
+ghost use Rattle.planning_ask.specs.Steps.{takesPartBy, ttlBy, lateBy, withArgument, Extracted, SeveralOf, askedSeveral, HasName, askNamed};
 
 // How far a command gets: it is ignored; it is stopped as not cacheable; or it has this name.
 pub enum Reached {
@@ -259,6 +259,16 @@ fn ask_one(bytes: &[u8], k: Args, expiry: u64) -> Asked
     }
 }
 
+// Several keys, if there are any.
+fn ask_several(v: Several, expiry: u64) -> Asked
+    ensures { λ r. ⌜ r ≡ askedSeveral v expiry ⌝ }
+{
+    if v.keys == 0 {
+        return Asked::Uncacheable;
+    }
+    Asked::SeveralKeys(v, expiry)
+}
+
 // By the command's name.
 fn ask_named(bytes: &[u8], k: Args, name: Range, expiry: u64) -> Asked
     requires { ⌜ ArgsHere (now bytes) k × RangeIn (now bytes) name × (plan.reachBy (argsOf (now bytes) k) ≡ plan.named (rangeBytes (now bytes) name)) ⌝ }
@@ -267,8 +277,8 @@ fn ask_named(bytes: &[u8], k: Args, name: Range, expiry: u64) -> Asked
 {
     let text = cursor::bytes_in(bytes, name);
     match commands::is_multi_key(text) {
-        MultiKey::Mget => Asked::SeveralKeys(several_of(bytes, k, false), expiry),
-        MultiKey::JsonMget => Asked::SeveralKeys(several_of(bytes, k, true), expiry),
+        MultiKey::Mget => ask_several(several_of(bytes, k, false), expiry),
+        MultiKey::JsonMget => ask_several(several_of(bytes, k, true), expiry),
         MultiKey::None => {
             if commands::is_cachable_cmd(text) {
                 ask_one(bytes, k, expiry)

@@ -93,10 +93,16 @@ pub record Table : Type 0 where
   -- at the clock of its expiry a value is served; a millisecond later it is dropped
   pub at-expiry : (lookedUp 10 .value ≡ some (ascii "$1\r\nx\r\n")) × (lookedUp 10 .held .counts ≡ plus 1 0 0)
   pub past-expiry : (lookedUp 11 .value ≡ none) × (lookedUp 11 .held ≡ record { arena = zeros 80; counts = plus 0 1 1; next = 1 })
-  -- `JSON.MGET` of one argument has a path and no key: all of no places served, nothing sent; resolved without a reply it answers that
-  pub json-mget-k : planned 2 (argument (ascii "JSON.MGET") ++ argument (ascii "k")) 28 0
-      ≡ record { returned = wrote 28 0 (record { offset = 0; count = 0 }); plan = planHead 0 1 ++ node 2 0 [] []; send = []; held = freshIn 80 }
-  pub json-mget-k-answer : resolved (planHead 0 1 ++ node 2 0 [] []) "*0\r\n" 8 80 ≡ returning (Answered 8 0) (ascii "*1\r\n*0\r\n") (freshIn 80)
+  -- `JSON.MGET` of one argument has a path and no key: it is sent as it stands, nothing is looked up (request 4), and its reply is its answer
+  pub json-mget-k : planned 2 (argument (ascii "JSON.MGET") ++ argument (ascii "k")) 28 26
+      ≡ record {
+        returned = wrote 28 26 (record { offset = 0; count = 1 });
+        plan = planHead 0 1 ++ node 0 0 [] [];
+        send = ascii "*2\r\n$9\r\nJSON.MGET\r\n$1\r\nk\r\n";
+        held = freshIn 80;
+      }
+  pub json-mget-k-answer : resolved (planHead 0 1 ++ node 0 0 [] []) "*1\r\n-ERR few\r\n" 14 80
+      ≡ returning (Answered 14 0) (ascii "*1\r\n-ERR few\r\n") (freshIn 80)
   -- `GET` of a key of no bytes is asked for, and missing
   pub empty-key : planned 2 (argument (ascii "GET") ++ argument []) 31 39
       ≡ record {

@@ -1,6 +1,6 @@
 //! What the sequences came to, so that one sees that hits, evictions, epochs, expiries and updates were common.
 
-use calls::{Answer, Call, Outcome, Place, State};
+use calls::{Answer, Arg, Call, Command, Outcome, Place, State, record};
 use std::collections::BTreeMap;
 
 /// Counts of events by name.
@@ -40,6 +40,7 @@ pub const OTHER_EVENTS: &[&str] = &[
     "opt-in planned",
     "ignored",
     "not cacheable",
+    "several keys that are none",
     "cached",
     "cached array",
     "one key missing",
@@ -66,6 +67,11 @@ impl Coverage {
                 outcomes.iter().for_each(|told| self.add(outcome(told), 1));
             }
             _ => {}
+        }
+        if let (Call::Plan { record, .. }, Answer::Planned { .. }) = (call, answer) {
+            let commands = record::parse(record).map_or(Vec::new(), |record| record.commands);
+            let none = commands.iter().filter(|command| without_keys(command));
+            self.add("several keys that are none", none.count() as u64);
         }
         if *answer == Answer::Refused(calls::Refusal::number(7)) && before != after {
             self.add("cause 7 with stores", 1);
@@ -119,6 +125,17 @@ impl Coverage {
             .collect();
         parts.join(", ")
     }
+}
+
+/// Whether a command is of several keys and has none (request 4); `JSON.MGET` has its path behind them.
+pub fn without_keys(command: &Command) -> bool {
+    let needed = match command.args.first() {
+        Some(Arg::Simple(name)) if name == b"MGET" => 1,
+        Some(Arg::Simple(name)) if name == b"JSON.MGET" => 2,
+        _ => return false,
+    };
+    let behind = command.args.iter().skip(1);
+    !command.ignored && behind.filter(|&arg| *arg != Arg::Cursor).count() < needed
 }
 
 fn kind(call: &Call) -> &'static str {

@@ -38,15 +38,35 @@ fn served_at_its_expiry_and_dropped_one_later() {
 }
 
 #[test]
-fn json_mget_of_a_path_alone_is_an_empty_array() {
-    for mut party in parties(&setup(4)) {
-        let planned = answer(&mut *party, at(0), &plan(&["JSON.MGET k"]));
-        let outcomes = vec![Outcome::CachedAll(vec![])];
-        assert_eq!(planned, all_served(outcomes));
-        assert_eq!(
-            result(answer(&mut *party, at(0), &resolve(0, "*0\r\n"))),
-            "*1\r\n*0\r\n"
-        );
+fn several_keys_that_are_none_go_to_the_server() {
+    for line in [
+        "JSON.MGET k",
+        "JSON.MGET",
+        "MGET",
+        "JSON.MGET @ k",
+        "MGET @",
+    ] {
+        for mut party in parties(&setup(4)) {
+            let Answer::Planned {
+                responses,
+                outcomes,
+                ..
+            } = answer(&mut *party, at(0), &plan(&[line]))
+            else {
+                panic!("planned");
+            };
+            assert_eq!((responses, outcomes), ((0, 1), vec![Outcome::NotCacheable]));
+            assert_eq!(
+                result(answer(
+                    &mut *party,
+                    at(0),
+                    &resolve(0, "*1\r\n-ERR few\r\n")
+                )),
+                "*1\r\n-ERR few\r\n"
+            );
+            let counts = party.state().counts;
+            assert_eq!((counts.hit, counts.miss, counts.invalidate), (0, 0, 0));
+        }
     }
 }
 

@@ -44,6 +44,18 @@ fn a_cursor_as_key_panics_in_the_crate() {
 }
 
 #[test]
+fn without_keys_the_crate_serves_an_empty_array() {
+    for line in ["MGET", "MGET @", "JSON.MGET", "JSON.MGET k"] {
+        let mut published = Reference::setup(&setup(4), false).as_published();
+        let planned = published.plan(at(0), &record(&[line])).expect("planned");
+        assert_eq!(outcomes(planned), [Outcome::CachedAll(vec![])], "{line}");
+        let mut model = model::Model::setup(&setup(4)).expect("a setup");
+        let planned = model.call(at(0), &plan(&[line]));
+        assert_eq!(outcomes(planned), [Outcome::NotCacheable], "{line}");
+    }
+}
+
+#[test]
 fn a_client_expiry_past_64_bits_goes_on_in_the_crate_and_is_refused_here() {
     let now = At {
         clock: u64::MAX,

@@ -1,7 +1,7 @@
 //! The frame notices parties that are wrong in one thing, and shows few calls that tell.
 
-use calls::{Answer, At, Call, Outcome, Setup, State};
-use compare::coverage::Coverage;
+use calls::{Answer, At, Call, Outcome, Setup, State, record};
+use compare::coverage::{self, Coverage};
 use compare::generate::{Limits, Sequence};
 use compare::party::Party;
 use compare::text::read;
@@ -23,6 +23,7 @@ enum Fault {
     Panics,
     SkipsOneMore,
     ServesTheFirstKeyTwice,
+    ServesNoKeys,
     RefusedStoresUntold,
     KeepsWhatIsPushed,
     OffsetOneOn,
@@ -59,6 +60,17 @@ impl Party for Wrong {
                         && let Some(first) = values.first().cloned()
                     {
                         values.fill(first);
+                    }
+                }
+            }
+            (Fault::ServesNoKeys, Answer::Planned { outcomes, .. }) => {
+                let Call::Plan { record, .. } = &call else {
+                    unreachable!("planned by a planning")
+                };
+                let commands = record::parse(record).expect("a record").commands;
+                for (command, outcome) in commands.iter().zip(outcomes) {
+                    if coverage::without_keys(command) {
+                        *outcome = Outcome::CachedAll(vec![]);
                     }
                 }
             }
@@ -114,6 +126,7 @@ fn a_wrong_party_is_noticed_with_few_calls() {
         failure(|setup| wrong(setup, Fault::Panics)),
         failure(|setup| wrong(setup, Fault::SkipsOneMore)),
         failure(|setup| wrong(setup, Fault::ServesTheFirstKeyTwice)),
+        failure(|setup| wrong(setup, Fault::ServesNoKeys)),
         failure(|setup| wrong(setup, Fault::RefusedStoresUntold)),
         failure(|setup| wrong(setup, Fault::KeepsWhatIsPushed)),
         failure(|setup| wrong(setup, Fault::OffsetOneOn)),

@@ -53,6 +53,9 @@ fn outcome(book: &mut Book, at: At, command: &Command) -> Result<Outcome, Refusa
         client_expiry,
     };
     if let Some((single, has_path)) = commands::multi_key(name) {
+        if keys_and_path(command, has_path).0.is_empty() {
+            return Ok(Outcome::NotCacheable);
+        }
         return Ok(several(book, at, command, single, has_path, missing));
     }
     let key = match command.args.get(1) {

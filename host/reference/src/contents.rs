@@ -65,6 +65,7 @@ impl Reference {
             lru: lru.into(),
             size,
             shard_bytes,
+            published: self.published,
             plans,
         }
     }

@@ -8,8 +8,8 @@ use crate::caching::{CacheConfig, CacheManager, CacheMode};
 use crate::plan::{Decided, Plan};
 use crate::request::pipeline;
 use crate::shims::clock::{self, Instant};
-use crate::shims::space;
 use crate::shims::types::bytes;
+use crate::shims::{requests, space};
 use crate::{PushKind, Value};
 use calls::{Answer, At, Record, Refusal, Setup, resp};
 use std::num::NonZeroUsize;
@@ -22,6 +22,7 @@ pub struct Reference {
     pub(crate) lru: Arc<ShardedLRU>,
     pub(crate) size: NonZeroUsize,
     pub(crate) shard_bytes: Option<u64>,
+    pub(crate) published: bool,
     pub(crate) plans: Vec<Arc<Plan>>,
 }
 
@@ -46,7 +47,16 @@ impl Reference {
             lru,
             size,
             shard_bytes,
+            published: false,
             plans: Vec::new(),
+        }
+    }
+
+    /// The crate as it was published, without what document 02 asks for.
+    pub fn as_published(self) -> Self {
+        Reference {
+            published: true,
+            ..self
         }
     }
 
@@ -54,6 +64,7 @@ impl Reference {
     pub(crate) fn manager(&self, at: At) -> CacheManager {
         clock::set(at.clock);
         space::set(self.shard_bytes);
+        requests::set(!self.published);
         CacheManager {
             lru: self.lru.clone(),
             cache_config: config(self.size, at.mode, at.default_ttl),

@@ -22,12 +22,18 @@ several-of-requires : tie.Need-several-of-requires
 several-of-requires c κs =
     (c .before .before .before .before .before .pre .0, laws.name-left _ _ (has-name _ _ (c .before .before .before .before .before .pre .2)))
 
+ask-several-requires : tie.Need-ask-several-requires
+ask-several-requires c κs = search needs
+
 enum-told-2 : tie.Need-enum-told-2
 enum-told-2 c = search needs
 
 several-of-requires-2 : tie.Need-several-of-requires-2
 several-of-requires-2 c κs =
     (c .before .before .before .before .before .pre .0, laws.name-left _ _ (has-name _ _ (c .before .before .before .before .before .pre .2)))
+
+ask-several-requires-2 : tie.Need-ask-several-requires-2
+ask-several-requires-2 c κs = search needs
 
 enum-told-3 : tie.Need-enum-told-3
 enum-told-3 c = search needs
@@ -41,15 +47,17 @@ ask-one-requires c κs =
 
 returns : tie.Need-returns
 returns c =
-    laws.named-several _ _ _ _ false _
-    (ap multiKey (sym (c .before .before .before .before .bytes-in .ensures)) ∙ sym (c .before .before .before .is-multi-key .ensures)
-    ∙ c .before .enum-told .given .1) (c .several-of .ensures)
+    rw (c .ask-several .ensures)
+    (laws.named-several _ _ _ _ false _
+    (ap multiKey (sym (c .before .before .before .before .before .bytes-in .ensures)) ∙ sym (c .before .before .before .before .is-multi-key .ensures)
+    ∙ c .before .before .enum-told .given .1) (c .before .several-of .ensures))
 
 returns-2 : tie.Need-returns-2
 returns-2 c =
-    laws.named-several _ _ _ _ true _
-    (ap multiKey (sym (c .before .before .before .before .bytes-in .ensures)) ∙ sym (c .before .before .before .is-multi-key .ensures)
-    ∙ c .before .enum-told2 .given .1) (c .several-of2 .ensures)
+    rw (c .ask-several2 .ensures)
+    (laws.named-several _ _ _ _ true _
+    (ap multiKey (sym (c .before .before .before .before .before .bytes-in .ensures)) ∙ sym (c .before .before .before .before .is-multi-key .ensures)
+    ∙ c .before .before .enum-told2 .given .1) (c .before .several-of2 .ensures))
 
 returns-3 : tie.Need-returns-3
 returns-3 c =
@@ -75,8 +83,10 @@ ask-named-spec =
     is-multi-key-requires
     enum-told
     several-of-requires
+    ask-several-requires
     enum-told-2
     several-of-requires-2
+    ask-several-requires-2
     enum-told-3
     is-cachable-cmd-requires
     ask-one-requires

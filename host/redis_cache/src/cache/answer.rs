@@ -65,9 +65,10 @@ impl<'a> Answer<'a> {
     /// ```
     /// # use redis_cache::{Cache, CacheConfig, Value, cmd};
     /// let mut cache = Cache::new(CacheConfig::new())?;
-    /// let plan = cache.plan(0, cmd("JSON.MGET").arg("$"))?;
-    /// let answer = cache.resolve(0, &plan, &plan.replies())?;
-    /// assert_eq!(answer.values(), [Value::Array(vec![])]);
+    /// let plan = cache.plan(0, &cmd("DBSIZE"))?;
+    /// let mut replies = plan.replies();
+    /// replies.add(b":12\r\n");
+    /// assert_eq!(cache.resolve(0, &plan, &replies)?.values(), [Value::Int(12)]);
     /// # Ok::<(), redis_cache::Error>(())
     /// ```
     pub fn values(&self) -> Vec<Value<'_>> {
