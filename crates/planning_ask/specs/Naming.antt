@@ -22,6 +22,7 @@ use Rattle.planning.specs.Ask as plan
 use Rattle.planning_ask.specs.Asked.{simplesOf, severalName, keysIn, pathIn, askedOf, AskedIn}
 use Rattle.planning_ask.specs.Steps.{ttlBy, SeveralOf, askedSeveral, HasName, askNamed}
 use Rattle.planning_ask.specs.Keys.{severalOf, several-name}
+use Rattle.planning_ask.specs.Simple.{nil-length}
 use Rattle.planning_ask.specs.declared.Several.{Several}
 
 -- where there is a name there is an argument
@@ -61,12 +62,8 @@ module _ (n : Bytes) (l : List Argument) (x : ℕ) where
       let f = length-take-le (v .keys) (simplesOf s (v .args)) (w .inside .enough) in
       byTest (eqb (v .keys) 0)
       (λ t. let z = eqb-true (v .keys) 0 t in
-      rw t (sym (ap (λ (ks : List Bytes). plan.askSeveral (severalName (v .json)) ks (pathIn s v) x) (empty (keysIn s v) (omega arith))) ∙ e, tt))
+      rw t (sym (ap (λ (ks : List Bytes). plan.askSeveral (severalName (v .json)) ks (pathIn s v) x) (nil-length (keysIn s v) (omega arith))) ∙ e, tt))
       (λ t. let z = eqb-false (v .keys) 0 t in rw t (sym (some-keys _ (keysIn s v) (pathIn s v) x (omega arith)) ∙ e, w .inside))
-    where
-      empty : (ks : List Bytes) → length ks ≡ 0 → ks ≡ []
-      empty [] h = refl
-      empty (k ∷ ks) h = absurd (omega arith)
 
   module _ (q : multiKey n ≡ None) where
     -- one key

@@ -190,7 +190,7 @@ unfolding plan.afterName
 after-name s k h = rw (args-more s (k .left) (k .left - 1) (k .at) (omega arith))
 
 -- a list of no elements
-nil-length : (l : List Bytes) → length l ≡ 0 → l ≡ []
+pub nil-length : (l : List Bytes) → length l ≡ 0 → l ≡ []
 nil-length [] h = refl
 nil-length (b ∷ l) h = absurd (omega arith)
 
