@@ -82,6 +82,12 @@ pub const EDITS: &[Edit] = &[
     },
     Edit {
         file: "caching/cache_manager.rs",
+        old: "        if crate::commands::is_cachable_cmd(command_name) {\n",
+        new: "        if crate::commands::is_cachable_cmd(command_name) && !crate::shims::requests::refuses_arguments(cmd) {\n",
+        why: "request 5: names of several keys are never cacheable, or only with one argument",
+    },
+    Edit {
+        file: "caching/cache_manager.rs",
         old: "        if commands.is_empty() {\n            return PrepCacheItem::Cached(Value::Array(response));\n",
         new: "        if crate::shims::requests::refuses_no_key(response.len()) {\n            return PrepCacheItem::NotCacheable;\n        }\n        if commands.is_empty() {\n            return PrepCacheItem::Cached(Value::Array(response));\n",
         why: "request 4: a command of several keys that has none is not cacheable; `response` has a place for each key",

@@ -16,7 +16,7 @@ use Rattle.format.specs.Format.{readByte}
 use Rattle.format.specs.Numbers.{upto}
 use Rattle.format.specs.Words.{word}
 use Rattle.format.specs.Runs.{rep}
-use Rattle.commands.specs.Names.{names, allAscii, readOnlyCacheable, member, isCacheable}
+use Rattle.commands.specs.Names.{name-defs}
 use Rattle.commands.specs.MultiKey.{multiKey, singleName}
 use Rattle.call_record.specs.Record.{encArgument}
 use Rattle.call_record.specs.Check.{checkOf, checkDef}
@@ -54,7 +54,7 @@ unfoldable pub call-case-defs : Unit {0}
 unfolding
     cause-case-defs same digits crlfB endedDef finDef numDef kindOf encode lengthAt crlfEnd blobEnd iter bodyHead headAt valueEnd isValue rotated sipRound
     rounds
-    initial compressed absorbed lastWord finished sipHash readByte upto word rep names allAscii readOnlyCacheable member isCacheable multiKey singleName
+    initial compressed absorbed lastWord finished sipHash readByte upto word rep name-defs multiKey singleName
     encArgument checkOf checkDef argsAt argsEnd commandsAt recordAt ask-defs outcome-defs sent-defs plan-defs planning-defs
 call-case-defs = tt
 

@@ -1,4 +1,4 @@
--- The arms of `is_cachable_cmd`: one law for each length that names have, and one for all other lengths. Assumes nothing.
+-- The arms of a match by a name's length: one law for each length that names of a list have, and one for all other lengths. Assumes nothing.
 use mathlib.Core.Path.{_≡_, refl, sym, ap, _∙_}
 use mathlib.Core.Bool.{Bool, true, false, cond, false≢true}
 use mathlib.Core.List.{List, [], _∷_}
@@ -9,22 +9,21 @@ use borrow.Author.Tests.{ne-eqb}
 use Rattle.buffer.specs.Cases.{byTest}
 use Rattle.buffer.specs.Same.{Bytes, same}
 use Rattle.buffer.specs.SameLaws.{same-eq}
-use Rattle.commands.specs.Names.{names, allAscii, readOnlyCacheable, member, isCacheable}
+use Rattle.commands.specs.Names.{names, soleKeyNames, allAscii, readOnlyCacheable, member, isCacheable, takesSoleKey}
 use Rattle.commands.specs.Rows.{row, ofLength}
 
--- opens the list of names and its rows, so that they compute
+-- opens both lists of names and their rows, so that they compute
 unfoldable pub open-names : Unit {0}
-unfolding readOnlyCacheable allAscii names row ofLength
+unfolding isCacheable takesSoleKey readOnlyCacheable allAscii names soleKeyNames row ofLength
 open-names = tt
 
 -- an arm's row holds the names of n bytes, so it answers for a name of n bytes
-pub arm : (b rows : Bytes) (n : ℕ) (r : Bool) → ((xs : List Bytes) → rows ≡ row (ofLength (length b) xs) → r ≡ member b xs) → length b ≡ n
-    → rows ≡ row (ofLength n readOnlyCacheable) → r ≡ isCacheable b
-unfolding isCacheable
-arm b rows n r f e w = f readOnlyCacheable (w ∙ ap (λ (k : ℕ). row (ofLength k readOnlyCacheable)) (sym e))
+pub arm : (xs : List Bytes) (b rows : Bytes) (n : ℕ) (r : Bool) → ((xs : List Bytes) → rows ≡ row (ofLength (length b) xs) → r ≡ member b xs)
+    → length b ≡ n → rows ≡ row (ofLength n xs) → r ≡ member b xs
+arm xs b rows n r f e w = f xs (w ∙ ap (λ (k : ℕ). row (ofLength k xs)) (sym e))
 
 -- a test that holds of every byte string of a list
-abbrev every : (Bytes → Bool) → List Bytes → Bool
+abbrev pub every : (Bytes → Bool) → List Bytes → Bool
 every f [] = true
 every f (x ∷ xs) = cond (f x) (every f xs) false
 
@@ -40,12 +39,8 @@ holds-of f b (x ∷ xs) t m =
     (λ s. holds-of f b xs (rw e at t) (rw s at m)))
     (λ e. absurd (false≢true (rw e at t)))
 
--- the lengths that have an arm, the last arm first
-abbrev arms : List ℕ
-arms = 16 ∷ 14 ∷ 13 ∷ 12 ∷ 11 ∷ 10 ∷ 9 ∷ 8 ∷ 7 ∷ 6 ∷ 5 ∷ 4 ∷ 3 ∷ []
-
 -- whether n is one of the numbers
-abbrev oneOf : ℕ → List ℕ → Bool
+abbrev pub oneOf : ℕ → List ℕ → Bool
 oneOf n [] = false
 oneOf n (k ∷ ks) = cond (eqb n k) true (oneOf n ks)
 
@@ -59,10 +54,9 @@ none-of : (n : ℕ) (ks : List ℕ) → NoneOf ks n → oneOf n ks ≡ false
 none-of n [] h = refl
 none-of n (k ∷ ks) h = rw (ne-eqb n k (h .1)) (none-of n ks (h .0))
 
--- every name's length has an arm, so a name of another length is not cacheable
-pub no-arm : (b : Bytes) → NoneOf arms (length b) → isCacheable b ≡ false
-unfolding isCacheable open-names
-no-arm b h =
-    byTest (member b readOnlyCacheable)
-    (λ m. absurd (false≢true (sym (none-of (length b) arms h) ∙ holds-of (λ x. oneOf (length x) arms) b readOnlyCacheable refl m)))
+-- where every name's length has an arm, a name of another length is none of them; ns are the arms' lengths, the last arm first
+pub no-arm : (ns : List ℕ) (xs : List Bytes) (b : Bytes) → every (λ (x : Bytes). oneOf (length x) ns) xs ≡ true → NoneOf ns (length b) → member b xs ≡ false
+no-arm ns xs b e h =
+    byTest (member b xs)
+    (λ m. absurd (false≢true (sym (none-of (length b) ns h) ∙ holds-of (λ (x : Bytes). oneOf (length x) ns) b xs e m)))
     (λ m. m)

@@ -1,10 +1,11 @@
-// Which commands' answers may be cached: `command_properties` cut to its ReadOnlyCacheable arm, and `is_multi_key`.
+// Which commands' answers may be cached: `command_properties` cut to its ReadOnlyCacheable arm, without the names that request 5 takes
+// off it, and `is_multi_key`.
 // specs/Names.antt and specs/MultiKey.antt have the definitions. Names are compared byte for byte, so only capitals are names.
 ghost use mathlib.Core.Path.{_≡_};
 ghost use mathlib.Core.List.{List};
 ghost use lib.ListN.{length};
 ghost use Rattle.buffer.specs.Same.{Bytes};
-ghost use Rattle.commands.specs.Names.{member, isCacheable};
+ghost use Rattle.commands.specs.Names.{member, isCacheable, takesSoleKey};
 ghost use Rattle.commands.specs.MultiKey.{multiKey};
 ghost use Rattle.commands.specs.Rows.{row, ofLength};
 
@@ -26,17 +27,17 @@ fn listed(name: &[u8], rows: &[u8]) -> bool
     false
 }
 
-// Whether the name is in the ReadOnlyCacheable arm. It is compared only with the names of its length.
+// Whether the name is one of those. It is compared only with the names of its length.
 pub fn is_cachable_cmd(name: &[u8]) -> bool
     ensures { λ r. ⌜ r ≡ isCacheable (now (name .entry)) ⌝ }
 {
     match name.len() {
-        3 => listed(name, b"|GET|LCS"),
+        3 => listed(name, b"|GET"),
         4 => listed(name, b"|DUMP|HGET|HLEN|LLEN|LPOS|MGET|TYPE"),
-        5 => listed(name, b"|HKEYS|HMGET|HVALS|SCARD|SDIFF|ZCARD|ZDIFF|ZRANK"),
+        5 => listed(name, b"|HKEYS|HMGET|HVALS|SCARD|SDIFF|ZCARD|ZRANK"),
         6 => listed(
             name,
-            b"|BITPOS|EXISTS|GEOPOS|GETBIT|LINDEX|LRANGE|SINTER|STRLEN|SUBSTR|SUNION|ZCOUNT|ZINTER|ZRANGE|ZSCORE|ZUNION",
+            b"|BITPOS|EXISTS|GEOPOS|GETBIT|LINDEX|LRANGE|SINTER|STRLEN|SUBSTR|SUNION|ZCOUNT|ZRANGE|ZSCORE",
         ),
         7 => listed(name, b"|GEODIST|GEOHASH|HEXISTS|HGETALL|HSTRLEN|ZMSCORE"),
         8 => listed(name, b"|BITCOUNT|GETRANGE|JSON.GET|SMEMBERS|ZREVRANK"),
@@ -44,7 +45,7 @@ pub fn is_cachable_cmd(name: &[u8]) -> bool
             name,
             b"|JSON.MGET|JSON.RESP|JSON.TYPE|SISMEMBER|ZLEXCOUNT|ZREVRANGE",
         ),
-        10 => listed(name, b"|SINTERCARD|SMISMEMBER|ZINTERCARD"),
+        10 => listed(name, b"|SMISMEMBER"),
         11 => listed(
             name,
             b"|BITFIELD_RO|JSON.ARRLEN|JSON.OBJLEN|JSON.STRLEN|ZRANGEBYLEX",
@@ -53,6 +54,17 @@ pub fn is_cachable_cmd(name: &[u8]) -> bool
         13 => listed(name, b"|JSON.ARRINDEX|ZRANGEBYSCORE"),
         14 => listed(name, b"|ZREVRANGEBYLEX"),
         16 => listed(name, b"|ZREVRANGEBYSCORE"),
+        _ => false,
+    }
+}
+
+// Whether every argument of a command of this name is a key, so that it is cached with one alone.
+pub fn takes_sole_key(name: &[u8]) -> bool
+    ensures { λ r. ⌜ r ≡ takesSoleKey (now (name .entry)) ⌝ }
+{
+    match name.len() {
+        5 => listed(name, b"|SDIFF"),
+        6 => listed(name, b"|EXISTS|SINTER|SUNION"),
         _ => false,
     }
 }

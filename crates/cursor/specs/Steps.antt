@@ -28,6 +28,12 @@ use Rattle.cursor.specs.declared.NextCommand.the-variants.{Done as NoCom
 pub one-more : (n : ℕ) → (n ≡ 0 → ⊥) → n ≡ n - 1 + 1
 one-more n h = omega arith
 
+-- n arguments are n
+pub args-count : (s : Bytes) (n at : ℕ) → length (argsAt s n at) ≡ n
+unfolding argsAt
+args-count s zero at = refl
+args-count s (suc n) at = ap suc (args-count s n (nextAt s at))
+
 -- they begin inside
 pub in-start : (s : Bytes) (n at : ℕ) → ArgsIn s n at → at ≤ length s
 unfolding ArgsIn

@@ -4,12 +4,13 @@
 use Prim.Native.Nat.{ℕ, _+_, _^_}
 use mathlib.Core.Bool.{Bool, true, false, cond, _||_}
 use mathlib.Core.List.{List, [], _∷_}
-use lib.Dec.{leb}
+use lib.Dec.{eqb, leb}
+use lib.ListN.{length}
 use Rattle.buffer.specs.Same.{Bytes}
 use Rattle.config.specs.declared.CacheMode.{CacheMode}
 use Rattle.config.specs.declared.CacheMode.the-variants.{All, OptIn}
 use Rattle.config.specs.declared.Settings.{Settings}
-use Rattle.commands.specs.Names.{isCacheable}
+use Rattle.commands.specs.Names.{isCacheable, takesSoleKey}
 use Rattle.commands.specs.MultiKey.{multiKey}
 use Rattle.commands.specs.declared.MultiKey.{MultiKey}
 use Rattle.commands.specs.declared.MultiKey.the-variants.{None, Mget, JsonMget}
@@ -102,6 +103,15 @@ askOne (a ∷ []) x = uncacheable
 askOne (a ∷ (simple k ∷ l)) x = oneKey k x
 askOne (a ∷ (cursor ∷ l)) x = uncacheable
 
+-- how many arguments it may have, the name among them: any number, but where all behind the name are keys just one of those (request 5), since only
+-- the first is watched
+unfoldable pub mayHave : Bytes → ℕ → Bool
+mayHave n count = cond (takesSoleKey n) (eqb count 2) true
+
+-- both
+unfoldable pub askListed : Bytes → List Argument → ℕ → Ask
+askListed n l x = cond (mayHave n (length l)) (askOne l x) uncacheable
+
 -- several keys; a command without any is not cacheable (request 4: the server is to say that its arguments are too few)
 unfoldable pub askSeveral : Bytes → List Bytes → List Bytes → ℕ → Ask
 askSeveral n [] path x = uncacheable
@@ -112,7 +122,7 @@ askSeveral n (k ∷ ks) path x = severalKeys n (k ∷ ks) path x
 unfoldable pub askBy : MultiKey → Bytes → List Argument → ℕ → Ask
 askBy Mget n l x = askSeveral n (afterName l) [] x
 askBy JsonMget n l x = askSeveral n (butLast (afterName l)) (lastOnly (afterName l)) x
-askBy None n l x = cond (isCacheable n) (askOne l x) uncacheable
+askBy None n l x = cond (isCacheable n) (askListed n l x) uncacheable
 
 -- by how far the command gets
 unfoldable pub askFrom : Reach → List Argument → ℕ → Ask
@@ -125,5 +135,5 @@ ask g t c = askFrom (reach (g .mode) c) (c .args) (clientExpiry g t c)
 
 -- one name that opens every definition of this page, for cases that compute
 unfoldable pub ask-defs : Unit {0}
-unfolding takesPart reachBy reach clientExpiry pastEnd anyLate simples afterName butLast lastOnly askOne askSeveral askBy askFrom ask
+unfolding takesPart reachBy reach clientExpiry pastEnd anyLate simples afterName butLast lastOnly askOne mayHave askListed askSeveral askBy askFrom ask
 ask-defs = tt

@@ -2,16 +2,17 @@
 -- Outcome.antt alone, so that a wrong definition there fails here first. Mode All, a default TTL of 1,800,000 and the clock 5, unless they say otherwise.
 use mathlib.Core.Path.{_≡_, refl}
 use mathlib.Core.Bool.{true, false}
-use mathlib.Core.List.{List, [], _∷_}
+use mathlib.Core.List.{List, [], _∷_, map}
 use Prim.Native.Nat.{ℕ}
 use Prim.Native.String.{String}
+use lib.ListN.{replicate}
 use Rattle.buffer.specs.Same.{Bytes, same}
 use Rattle.config.specs.declared.CacheMode.{CacheMode}
 use Rattle.config.specs.declared.CacheMode.the-variants.{All, OptIn}
 use Rattle.config.specs.declared.Settings.{Settings}
 use Rattle.decimal.specs.Digits.{digits}
 use Rattle.buffer.specs.Ascii.{ascii}
-use Rattle.commands.specs.Names.{names, allAscii, readOnlyCacheable, member, isCacheable}
+use Rattle.commands.specs.Names.{name-defs}
 use Rattle.commands.specs.MultiKey.{multiKey, singleName}
 use Rattle.call_record.specs.Record.{Argument, simple, cursor, Command}
 use Rattle.book.specs.Book.{Answer, hit, miss}
@@ -66,7 +67,7 @@ result s t c said = outcome c (ask s t c) said
 -- one name that opens all that these cases compute
 unfoldable pub case-defs : Unit {0}
 unfolding
-    looks result ask-defs outcome-defs same digits names allAscii readOnlyCacheable member isCacheable multiKey
+    looks result ask-defs outcome-defs same digits name-defs multiKey
     singleName
 case-defs = tt
 
@@ -90,6 +91,36 @@ empty-key = refl
 pub small-letters : result all 5 (plain (word "get" ∷ word "a" ∷ [])) [] ≡ item notCacheable
 unfolding case-defs
 small-letters = refl
+
+-- ---- names whose arguments are all keys, and names that are never cached (request 5)
+
+-- `EXISTS`, `SDIFF`, `SINTER`, `SUNION` of one argument
+pub sole-keys :
+    map (λ (s : String). looks all 5 (plain (word s ∷ word "a" ∷ []))) ("EXISTS" ∷ "SDIFF" ∷ "SINTER" ∷ "SUNION" ∷ [])
+    ≡ (under "a" "EXISTSa" ∷ []) ∷ (under "a" "SDIFFa" ∷ []) ∷ (under "a" "SINTERa" ∷ []) ∷ (under "a" "SUNIONa" ∷ []) ∷ []
+unfolding case-defs
+sole-keys = refl
+
+-- of two, of one twice, of one and an empty one, of one and a cursor, of a cursor, of none
+pub no-sole-key :
+    map (λ (l : List Argument). result all 5 (plain (word "SUNION" ∷ l)) [])
+    ((word "north" ∷ word "south" ∷ []) ∷ (word "a" ∷ word "a" ∷ []) ∷ (word "a" ∷ word "" ∷ []) ∷ (word "a" ∷ cursor ∷ []) ∷ (cursor ∷ []) ∷ [] ∷ [])
+    ≡ replicate 6 (item notCacheable)
+unfolding case-defs
+no-sole-key = refl
+
+-- the six
+pub never-cached :
+    map (λ (s : String). result all 5 (plain (word s ∷ word "2" ∷ word "a" ∷ word "b" ∷ [])) [])
+    ("LCS" ∷ "SINTERCARD" ∷ "ZDIFF" ∷ "ZINTER" ∷ "ZINTERCARD" ∷ "ZUNION" ∷ [])
+    ≡ replicate 6 (item notCacheable)
+unfolding case-defs
+never-cached = refl
+
+-- cause 4 is judged for them too
+pub never-cached-late : anyLate all 18446744073709551615 (plain (word "LCS" ∷ word "a" ∷ word "b" ∷ []) ∷ []) ≡ true
+unfolding case-defs
+never-cached-late = refl
 
 -- ---- who takes part
 

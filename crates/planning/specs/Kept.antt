@@ -23,7 +23,7 @@ use Rattle.book.specs.Book.{Answer, hit, miss, stored, noSpace, invalidated, nu
 use Rattle.book.specs.Calls.{Wanted}
 use borrow.Author.Tests.{leb-false}
 use Rattle.planning.specs.Ask.{Reach, skipped, stopped, named, pastEnd, reach, clientExpiry, anyLate, afterName, butLast, lastOnly}
-use Rattle.planning.specs.Ask.{askOne, askSeveral, askBy, askFrom, Ask, severalKeys, ask}
+use Rattle.planning.specs.Ask.{askOne, mayHave, askListed, askSeveral, askBy, askFrom, Ask, uncacheable, severalKeys, ask}
 use Rattle.planning.specs.Outcome.{Place, filled, waiting, item, asSimple, wholeKey, partKeys, wants, placeBy, place, places, servedValues}
 use Rattle.planning.specs.Outcome.{singleItem, multipleItem, missing, outcome, outcomes}
 use Rattle.planning.specs.Plan.{endOfSeveral, valueNodes, placeNodes, servedNodes, missingNodes, nodesOf, nodes, planOf}
@@ -157,6 +157,17 @@ module _ (c : Command) (said : List Answer) (fine : All GoodAnswer said) (x : �
       single-nodes x (place said (wholeKey c k)) fits (place-good said (wholeKey c k) fine (unfold wholeKey in record { key = h .1 .0 .0; command = b }))
   one-nodes (a ∷ (cursor ∷ l)) h b = (tt, tt)
 
+  -- none
+  uncached-node : All GoodNode (nodesOf (outcome c uncacheable said))
+  unfolding outcome nodesOf GoodNode
+  uncached-node = (tt, tt)
+
+  -- one key, if it may have so many arguments
+  listed-nodes : (n : Bytes) (l : List Argument) → All ValidArgument l → length (commandKey (c .args)) ≤ maxCommandKey
+      → All GoodNode (nodesOf (outcome c (askListed n l x) said))
+  unfolding askListed
+  listed-nodes n l h b = byTest (mayHave n (length l)) (λ e. rw e (one-nodes l h b)) (λ e. rw e uncached-node)
+
   -- several keys
   several-nodes : (n : Bytes) (ks path : List Bytes) → All Short ks → length ks ≤ maxArguments → Short (commandKey (asSimple path))
       → All GoodNode (nodesOf (outcome c (severalKeys n ks path x) said))
@@ -171,7 +182,7 @@ module _ (c : Command) (said : List Answer) (fine : All GoodAnswer said) (x : �
   asked-several-nodes : (n : Bytes) (ks path : List Bytes) → All Short ks → length ks ≤ maxArguments → Short (commandKey (asSimple path))
       → All GoodNode (nodesOf (outcome c (askSeveral n ks path x) said))
   unfolding askSeveral
-  asked-several-nodes n [] path h g q = unfold outcome in unfold nodesOf in unfold GoodNode in (tt, tt)
+  asked-several-nodes n [] path h g q = uncached-node
   asked-several-nodes n (k ∷ ks) path h g q = several-nodes n (k ∷ ks) path h g q
 
   -- by the name
@@ -188,7 +199,7 @@ module _ (c : Command) (said : List Answer) (fine : All GoodAnswer said) (x : �
       asked-several-nodes n (butLast (afterName (c .args))) (lastOnly (afterName (c .args))) (but-last-short (afterName (c .args)) s) (omega arith)
       (last-short (afterName (c .args)) s)
   named-nodes None n h g b =
-      byTest (isCacheable n) (λ e. rw e (one-nodes (c .args) h b)) (λ e. rw e (unfold outcome in unfold nodesOf in unfold GoodNode in (tt, tt)))
+      byTest (isCacheable n) (λ e. rw e (listed-nodes n (c .args) h b)) (λ e. rw e uncached-node)
 
 -- by how far the command gets
 reached-nodes : (c : Command) (said : List Answer) (x : ℕ) (q : Reach) → pastEnd q x ≡ false → All GoodAnswer said → ValidCommand c

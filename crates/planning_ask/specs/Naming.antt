@@ -67,9 +67,14 @@ module _ (n : Bytes) (l : List Argument) (x : ℕ) where
 
   module _ (q : multiKey n ≡ None) where
     -- one key
-    pub named-one : isCacheable n ≡ true → askNamed n l x ≡ plan.askOne l x
-    unfolding plan.askBy
-    named-one t = rw (q, t)
+    pub named-one : isCacheable n ≡ true → plan.mayHave n (length l) ≡ true → askNamed n l x ≡ plan.askOne l x
+    unfolding plan.askBy plan.askListed
+    named-one t u = rw (q, t, u)
+
+    -- with so many arguments not cacheable
+    pub named-many : isCacheable n ≡ true → plan.mayHave n (length l) ≡ false → askNamed n l x ≡ plan.uncacheable
+    unfolding plan.askBy plan.askListed
+    named-many t u = rw (q, t, u)
 
     -- not cacheable
     pub named-none : isCacheable n ≡ false → askNamed n l x ≡ plan.uncacheable

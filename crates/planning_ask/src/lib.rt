@@ -259,6 +259,16 @@ fn ask_one(bytes: &[u8], k: Args, expiry: u64) -> Asked
     }
 }
 
+// Whether a command of this name may be cached with so many arguments, the name among them.
+fn may_have(name: &[u8], count: usize) -> bool
+    ensures { λ r. ⌜ r ≡ plan.mayHave (now (name .entry)) count ⌝ }
+{
+    if commands::takes_sole_key(name) {
+        return count == 2;
+    }
+    true
+}
+
 // Several keys, if there are any.
 fn ask_several(v: Several, expiry: u64) -> Asked
     ensures { λ r. ⌜ r ≡ askedSeveral v expiry ⌝ }
@@ -281,7 +291,11 @@ fn ask_named(bytes: &[u8], k: Args, name: Range, expiry: u64) -> Asked
         MultiKey::JsonMget => ask_several(several_of(bytes, k, true), expiry),
         MultiKey::None => {
             if commands::is_cachable_cmd(text) {
-                ask_one(bytes, k, expiry)
+                if may_have(text, k.left) {
+                    ask_one(bytes, k, expiry)
+                } else {
+                    Asked::Uncacheable
+                }
             } else {
                 Asked::Uncacheable
             }

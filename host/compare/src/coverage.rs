@@ -1,6 +1,7 @@
 //! What the sequences came to, so that one sees that hits, evictions, epochs, expiries and updates were common.
 
 use calls::{Answer, Arg, Call, Command, Outcome, Place, State, record};
+use model::commands::{NEVER, SOLE_KEY};
 use std::collections::BTreeMap;
 
 /// Counts of events by name.
@@ -41,6 +42,8 @@ pub const OTHER_EVENTS: &[&str] = &[
     "ignored",
     "not cacheable",
     "several keys that are none",
+    "several sets",
+    "one set",
     "cached",
     "cached array",
     "one key missing",
@@ -70,8 +73,11 @@ impl Coverage {
         }
         if let (Call::Plan { record, .. }, Answer::Planned { .. }) = (call, answer) {
             let commands = record::parse(record).map_or(Vec::new(), |record| record.commands);
-            let none = commands.iter().filter(|command| without_keys(command));
-            self.add("several keys that are none", none.count() as u64);
+            for command in commands {
+                self.add("several keys that are none", without_keys(&command).into());
+                self.add("several sets", several_sets(&command).into());
+                self.add("one set", one_set(&command).into());
+            }
         }
         if *answer == Answer::Refused(calls::Refusal::number(7)) && before != after {
             self.add("cause 7 with stores", 1);
@@ -136,6 +142,25 @@ pub fn without_keys(command: &Command) -> bool {
     };
     let behind = command.args.iter().skip(1);
     !command.ignored && behind.filter(|&arg| *arg != Arg::Cursor).count() < needed
+}
+
+/// Whether a command has keys that nobody watches, which request 5 lets go uncached: they are behind argument 1.
+pub fn several_sets(command: &Command) -> bool {
+    let [Arg::Simple(name), Arg::Simple(_), more @ ..] = command.args.as_slice() else {
+        return false;
+    };
+    !command.ignored && (among(NEVER, name) || among(SOLE_KEY, name) && !more.is_empty())
+}
+
+/// Whether a command of a name whose arguments are all keys has one.
+fn one_set(command: &Command) -> bool {
+    let args = command.args.as_slice();
+    let alone = matches!(args, [Arg::Simple(name), Arg::Simple(_)] if among(SOLE_KEY, name));
+    !command.ignored && alone
+}
+
+fn among(names: &[&str], name: &[u8]) -> bool {
+    names.iter().any(|known| known.as_bytes() == name)
 }
 
 fn kind(call: &Call) -> &'static str {

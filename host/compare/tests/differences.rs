@@ -190,14 +190,35 @@ fn an_all_cached_transaction_fails_in_the_crates_connection() {
 
 /// `ZUNION`, `SUNION` and the like watch their first argument alone: for `ZUNION 2 a b` that is the number of keys.
 #[test]
-fn only_argument_1_is_the_key() {
-    let mut reference = Reference::setup(&setup(4), false);
-    let planned = outcomes(
-        reference
-            .plan(at(0), &record(&["ZUNION 2 a b"]))
-            .expect("planned"),
-    );
-    assert!(matches!(&planned[0], Outcome::Single(missing) if missing.key == b"2"));
+fn of_several_sets_the_crate_watches_argument_1() {
+    for (line, key) in [
+        ("ZUNION 2 a b", "2"),
+        ("SUNION north south", "north"),
+        ("EXISTS a @", "a"),
+        ("LCS a b", "a"),
+    ] {
+        let mut published = Reference::setup(&setup(4), false).as_published();
+        let planned = outcomes(published.plan(at(0), &record(&[line])).expect("planned"));
+        let watched =
+            matches!(&planned[0], Outcome::Single(missing) if missing.key == key.as_bytes());
+        assert!(watched, "{line}");
+        let mut model = model::Model::setup(&setup(4)).expect("a setup");
+        let planned = model.call(at(0), &plan(&[line]));
+        assert_eq!(outcomes(planned), [Outcome::NotCacheable], "{line}");
+    }
+}
+
+/// Of one argument, a simple one, four of them are cached as before; a cursor in its place is no panic.
+#[test]
+fn a_set_alone_is_cached() {
+    for name in model::commands::SOLE_KEY {
+        for mut party in parties(&setup(4)) {
+            let lines = [&*format!("{name} a"), &*format!("{name} @"), name];
+            let planned = outcomes(answer(&mut *party, at(0), &plan(&lines)));
+            assert!(matches!(&planned[0], Outcome::Single(missing) if missing.key == b"a"));
+            assert_eq!(planned[1..], [Outcome::NotCacheable, Outcome::NotCacheable]);
+        }
+    }
 }
 
 #[test]
@@ -222,7 +243,8 @@ fn mode_all_takes_a_ttl_with_enable_cache_clear() {
 
 #[test]
 fn the_cacheable_names_are_the_crates() {
-    for name in model::commands::CACHEABLE {
+    let names = [model::commands::CACHEABLE, model::commands::NEVER].concat();
+    for name in names {
         assert!(reference::is_cachable_cmd(name.as_bytes()), "{name}");
         assert!(
             !reference::is_cachable_cmd(name.to_lowercase().as_bytes()),
@@ -231,7 +253,7 @@ fn the_cacheable_names_are_the_crates() {
     }
 }
 
-/// No other name of the crate's list is cacheable: the names are read from the sources' own text.
+/// No other name of the crate's list is cacheable, but for the six of request 5: the names are read from the sources' own text.
 #[test]
 fn no_other_name_of_the_crates_list_is_cacheable() {
     let text = std::fs::read_to_string(reference::commands_path()).expect("the copied sources");
@@ -245,8 +267,9 @@ fn no_other_name_of_the_crates_list_is_cacheable() {
         .iter()
         .filter(|name| reference::is_cachable_cmd(name.as_bytes()))
         .count();
-    assert_eq!(cacheable, model::commands::CACHEABLE.len());
-    for name in names {
+    let never = model::commands::NEVER;
+    assert_eq!(cacheable, model::commands::CACHEABLE.len() + never.len());
+    for name in names.into_iter().filter(|name| !never.contains(name)) {
         assert_eq!(
             reference::is_cachable_cmd(name.as_bytes()),
             model::commands::cacheable(name.as_bytes()),

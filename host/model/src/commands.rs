@@ -1,4 +1,4 @@
-//! The names of the ReadOnlyCacheable arm of `command_properties`.
+//! The names of the ReadOnlyCacheable arm of `command_properties`, and what request 5 makes of them.
 
 /// The cacheable names.
 pub const CACHEABLE: &[&str] = &[
@@ -30,7 +30,6 @@ pub const CACHEABLE: &[&str] = &[
     "JSON.RESP",
     "JSON.STRLEN",
     "JSON.TYPE",
-    "LCS",
     "LINDEX",
     "LLEN",
     "LPOS",
@@ -39,7 +38,6 @@ pub const CACHEABLE: &[&str] = &[
     "SCARD",
     "SDIFF",
     "SINTER",
-    "SINTERCARD",
     "SISMEMBER",
     "SMEMBERS",
     "SMISMEMBER",
@@ -49,9 +47,6 @@ pub const CACHEABLE: &[&str] = &[
     "TYPE",
     "ZCARD",
     "ZCOUNT",
-    "ZDIFF",
-    "ZINTER",
-    "ZINTERCARD",
     "ZLEXCOUNT",
     "ZMSCORE",
     "ZRANGE",
@@ -63,8 +58,25 @@ pub const CACHEABLE: &[&str] = &[
     "ZREVRANGEBYSCORE",
     "ZREVRANK",
     "ZSCORE",
+];
+
+/// Names of the arm that are never cached: they have several keys, not all in the place that is watched.
+pub const NEVER: &[&str] = &[
+    "LCS",
+    "SINTERCARD",
+    "ZDIFF",
+    "ZINTER",
+    "ZINTERCARD",
     "ZUNION",
 ];
+
+/// Cacheable names whose arguments are all keys: they are cached with one argument behind the name.
+pub const SOLE_KEY: &[&str] = &["EXISTS", "SDIFF", "SINTER", "SUNION"];
+
+/// Whether a command of this name can be cached with so many arguments behind it.
+pub fn may_have(name: &[u8], arguments: usize) -> bool {
+    arguments == 1 || !SOLE_KEY.iter().any(|known| known.as_bytes() == name)
+}
 
 /// Whether a command of this name can be cached. Names are told apart by capitals.
 pub fn cacheable(name: &[u8]) -> bool {

@@ -59,7 +59,11 @@ fn outcome(book: &mut Book, at: At, command: &Command) -> Result<Outcome, Refusa
         return Ok(several(book, at, command, single, has_path, missing));
     }
     let key = match command.args.get(1) {
-        Some(Arg::Simple(key)) if commands::cacheable(name) => key,
+        Some(Arg::Simple(key))
+            if commands::cacheable(name) && commands::may_have(name, command.args.len() - 1) =>
+        {
+            key
+        }
         _ => return Ok(Outcome::NotCacheable),
     };
     let command_key = simple(&command.args).concat();

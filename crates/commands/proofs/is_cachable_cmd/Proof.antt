@@ -1,6 +1,8 @@
 -- `commands::is_cachable_cmd` meets its contract: each arm's row is the row of the names of its length, which is computed. Assumes nothing.
 use mathlib.Core.Path.{refl, sym}
+use mathlib.Core.List.{[], _∷_}
 use native.Mathlib.Omega.{arith}
+use Rattle.commands.specs.Names.{readOnlyCacheable}
 use Rattle.commands.proofs.Arms.{open-names, arm, no-arm}
 use borrow.Author.Needs.{needs}
 use Rattle.commands.proofs.is_cachable_cmd.Statement.{statement}
@@ -86,58 +88,59 @@ listed-requires-13 c κs = search needs
 
 returns : tie.Need-returns
 unfolding open-names
-returns c = arm _ _ 3 _ (c .listed .ensures) (omega arith) refl
+returns c = arm readOnlyCacheable _ _ 3 _ (c .listed .ensures) (omega arith) refl
 
 returns-2 : tie.Need-returns-2
 unfolding open-names
-returns-2 c = arm _ _ 4 _ (c .listed2 .ensures) (omega arith) refl
+returns-2 c = arm readOnlyCacheable _ _ 4 _ (c .listed2 .ensures) (omega arith) refl
 
 returns-3 : tie.Need-returns-3
 unfolding open-names
-returns-3 c = arm _ _ 5 _ (c .listed3 .ensures) (omega arith) refl
+returns-3 c = arm readOnlyCacheable _ _ 5 _ (c .listed3 .ensures) (omega arith) refl
 
 returns-4 : tie.Need-returns-4
 unfolding open-names
-returns-4 c = arm _ _ 6 _ (c .listed4 .ensures) (omega arith) refl
+returns-4 c = arm readOnlyCacheable _ _ 6 _ (c .listed4 .ensures) (omega arith) refl
 
 returns-5 : tie.Need-returns-5
 unfolding open-names
-returns-5 c = arm _ _ 7 _ (c .listed5 .ensures) (omega arith) refl
+returns-5 c = arm readOnlyCacheable _ _ 7 _ (c .listed5 .ensures) (omega arith) refl
 
 returns-6 : tie.Need-returns-6
 unfolding open-names
-returns-6 c = arm _ _ 8 _ (c .listed6 .ensures) (omega arith) refl
+returns-6 c = arm readOnlyCacheable _ _ 8 _ (c .listed6 .ensures) (omega arith) refl
 
 returns-7 : tie.Need-returns-7
 unfolding open-names
-returns-7 c = arm _ _ 9 _ (c .listed7 .ensures) (omega arith) refl
+returns-7 c = arm readOnlyCacheable _ _ 9 _ (c .listed7 .ensures) (omega arith) refl
 
 returns-8 : tie.Need-returns-8
 unfolding open-names
-returns-8 c = arm _ _ 10 _ (c .listed8 .ensures) (omega arith) refl
+returns-8 c = arm readOnlyCacheable _ _ 10 _ (c .listed8 .ensures) (omega arith) refl
 
 returns-9 : tie.Need-returns-9
 unfolding open-names
-returns-9 c = arm _ _ 11 _ (c .listed9 .ensures) (omega arith) refl
+returns-9 c = arm readOnlyCacheable _ _ 11 _ (c .listed9 .ensures) (omega arith) refl
 
 returns-10 : tie.Need-returns-10
 unfolding open-names
-returns-10 c = arm _ _ 12 _ (c .listed10 .ensures) (omega arith) refl
+returns-10 c = arm readOnlyCacheable _ _ 12 _ (c .listed10 .ensures) (omega arith) refl
 
 returns-11 : tie.Need-returns-11
 unfolding open-names
-returns-11 c = arm _ _ 13 _ (c .listed11 .ensures) (omega arith) refl
+returns-11 c = arm readOnlyCacheable _ _ 13 _ (c .listed11 .ensures) (omega arith) refl
 
 returns-12 : tie.Need-returns-12
 unfolding open-names
-returns-12 c = arm _ _ 14 _ (c .listed12 .ensures) (omega arith) refl
+returns-12 c = arm readOnlyCacheable _ _ 14 _ (c .listed12 .ensures) (omega arith) refl
 
 returns-13 : tie.Need-returns-13
 unfolding open-names
-returns-13 c = arm _ _ 16 _ (c .listed13 .ensures) (omega arith) refl
+returns-13 c = arm readOnlyCacheable _ _ 16 _ (c .listed13 .ensures) (omega arith) refl
 
 returns-14 : tie.Need-returns-14
-returns-14 c = sym (no-arm _ (c .match .rest))
+unfolding open-names
+returns-14 c = sym (no-arm (16 ∷ 14 ∷ 13 ∷ 12 ∷ 11 ∷ 10 ∷ 9 ∷ 8 ∷ 7 ∷ 6 ∷ 5 ∷ 4 ∷ 3 ∷ []) readOnlyCacheable _ refl (c .match .rest))
 
 pub is-cachable-cmd-spec : {M : Type 1} → statement M
 is-cachable-cmd-spec =

@@ -1,8 +1,10 @@
 -- `planning_ask::ask_named` meets its contract. Assumes nothing.
-use mathlib.Core.Path.{sym, ap, _∙_}
+use mathlib.Core.Path.{sym, ap, ap₂, _∙_}
 use mathlib.Core.Bool.{true, false}
 use Rattle.commands.specs.MultiKey.{multiKey}
 use Rattle.commands.specs.Names.{isCacheable}
+use Rattle.cursor.specs.Steps.{args-count}
+use Rattle.planning.specs.Ask as plan
 use Rattle.planning_ask.specs.Naming as laws
 use Rattle.planning_ask.specs.Reaching.{has-name}
 use borrow.Author.Needs.{needs}
@@ -41,9 +43,11 @@ enum-told-3 c = search needs
 is-cachable-cmd-requires : tie.Need-is-cachable-cmd-requires
 is-cachable-cmd-requires c κs = search needs
 
+may-have-requires : tie.Need-may-have-requires
+may-have-requires c κs = search needs
+
 ask-one-requires : tie.Need-ask-one-requires
-ask-one-requires c κs =
-    (c .before .before .before .before .before .before .before .pre .0, has-name _ _ (c .before .before .before .before .before .before .before .pre .2))
+ask-one-requires c κs = (c .before .before .before .before .before .before .before .before .before .pre .0, has-name _ _ (c .before .before .before .before .before .before .before .before .before .pre .2))
 
 returns : tie.Need-returns
 returns c =
@@ -61,18 +65,28 @@ returns-2 c =
 
 returns-3 : tie.Need-returns-3
 returns-3 c =
-    let m = (ap multiKey (sym (c .before .before .before .before .before .before .bytes-in .ensures))
-    ∙ sym (c .before .before .before .before .before .is-multi-key .ensures) ∙ c .before .before .before .enum-told3 .given .1) in
-    let t = ap isCacheable (sym (c .before .before .before .before .before .before .bytes-in .ensures))
-    ∙ sym (c .before .before .is-cachable-cmd .ensures) ∙ c .before .if1 .taken in
+    let n = sym (c .before .before .before .before .before .before .before .before .bytes-in .ensures) in
+    let m = ap multiKey n ∙ sym (c .before .before .before .before .before .before .before .is-multi-key .ensures) ∙ c .before .before .before .before .before .enum-told3 .given .1 in
+    let t = ap isCacheable n ∙ sym (c .before .before .before .before .is-cachable-cmd .ensures) ∙ c .before .before .before .if1 .taken in
+    let a = c .before .before .before .before .before .before .before .before .before .before .args in
+    let u = ap₂ plan.mayHave n (args-count (a .bytes .now) (a .k .left) (a .k .at)) ∙ sym (c .before .before .may-have .ensures) ∙ c .before .if2 .taken in
     let e = c .ask-one .ensures in
-    (e .0 ∙ sym (laws.named-one _ _ _ m t), e .1)
+    (e .0 ∙ sym (laws.named-one _ _ _ m t u), e .1)
 
 returns-4 : tie.Need-returns-4
 returns-4 c =
-    let m = (ap multiKey (sym (c .before .before .before .before .before .bytes-in .ensures))
-    ∙ sym (c .before .before .before .before .is-multi-key .ensures) ∙ c .before .before .enum-told3 .given .1) in
-    let t = ap isCacheable (sym (c .before .before .before .before .before .bytes-in .ensures)) ∙ sym (c .before .is-cachable-cmd .ensures) ∙ c .if1 .left in
+    let n = sym (c .before .before .before .before .before .before .before .bytes-in .ensures) in
+    let m = ap multiKey n ∙ sym (c .before .before .before .before .before .before .is-multi-key .ensures) ∙ c .before .before .before .before .enum-told3 .given .1 in
+    let t = ap isCacheable n ∙ sym (c .before .before .before .is-cachable-cmd .ensures) ∙ c .before .before .if1 .taken in
+    let a = c .before .before .before .before .before .before .before .before .before .args in
+    let u = ap₂ plan.mayHave n (args-count (a .bytes .now) (a .k .left) (a .k .at)) ∙ sym (c .before .may-have .ensures) ∙ c .if2 .left in
+    (sym (laws.named-many _ _ _ m t u), tt)
+
+returns-5 : tie.Need-returns-5
+returns-5 c =
+    let n = sym (c .before .before .before .before .before .bytes-in .ensures) in
+    let m = ap multiKey n ∙ sym (c .before .before .before .before .is-multi-key .ensures) ∙ c .before .before .enum-told3 .given .1 in
+    let t = ap isCacheable n ∙ sym (c .before .is-cachable-cmd .ensures) ∙ c .if1 .left in
     (sym (laws.named-none _ _ _ m t), tt)
 
 pub ask-named-spec : {M : Type 1} → statement M
@@ -89,8 +103,10 @@ ask-named-spec =
     ask-several-requires-2
     enum-told-3
     is-cachable-cmd-requires
+    may-have-requires
     ask-one-requires
     returns
     returns-2
     returns-3
-    returns-4)
+    returns-4
+    returns-5)
