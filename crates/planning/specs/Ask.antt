@@ -108,7 +108,7 @@ askOne (a ∷ (cursor ∷ l)) x = uncacheable
 unfoldable pub mayHave : Bytes → ℕ → Bool
 mayHave n count = cond (takesSoleKey n) (eqb count 2) true
 
--- both
+-- one key, where it may have so many arguments
 unfoldable pub askListed : Bytes → List Argument → ℕ → Ask
 askListed n l x = cond (mayHave n (length l)) (askOne l x) uncacheable
 

@@ -157,7 +157,7 @@ module _ (c : Command) (said : List Answer) (fine : All GoodAnswer said) (x : �
       single-nodes x (place said (wholeKey c k)) fits (place-good said (wholeKey c k) fine (unfold wholeKey in record { key = h .1 .0 .0; command = b }))
   one-nodes (a ∷ (cursor ∷ l)) h b = (tt, tt)
 
-  -- none
+  -- a command that is not cacheable
   uncached-node : All GoodNode (nodesOf (outcome c uncacheable said))
   unfolding outcome nodesOf GoodNode
   uncached-node = (tt, tt)

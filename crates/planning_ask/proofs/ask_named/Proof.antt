@@ -47,7 +47,7 @@ may-have-requires : tie.Need-may-have-requires
 may-have-requires c κs = search needs
 
 ask-one-requires : tie.Need-ask-one-requires
-ask-one-requires c κs = (c .before .before .before .before .before .before .before .before .before .pre .0, has-name _ _ (c .before .before .before .before .before .before .before .before .before .pre .2))
+ask-one-requires c κs = let given = c .before .before .before .before .before .before .before .before .before .pre in (given .0, has-name _ _ (given .2))
 
 returns : tie.Need-returns
 returns c =
@@ -63,30 +63,35 @@ returns-2 c =
     (ap multiKey (sym (c .before .before .before .before .before .bytes-in .ensures)) ∙ sym (c .before .before .before .before .is-multi-key .ensures)
     ∙ c .before .before .enum-told2 .given .1) (c .before .several-of2 .ensures))
 
+-- below, `asked` is where the name was looked for among the cacheable ones, `n` that it is the record's, `m` that it asks for one key, `t` what was found, and
+-- `u` whether it may have so many arguments
 returns-3 : tie.Need-returns-3
 returns-3 c =
-    let n = sym (c .before .before .before .before .before .before .before .before .bytes-in .ensures) in
-    let m = ap multiKey n ∙ sym (c .before .before .before .before .before .before .before .is-multi-key .ensures) ∙ c .before .before .before .before .before .enum-told3 .given .1 in
-    let t = ap isCacheable n ∙ sym (c .before .before .before .before .is-cachable-cmd .ensures) ∙ c .before .before .before .if1 .taken in
-    let a = c .before .before .before .before .before .before .before .before .before .before .args in
+    let asked = c .before .before .before .before in
+    let n = sym (asked .before .before .before .before .bytes-in .ensures) in
+    let m = ap multiKey n ∙ sym (asked .before .before .before .is-multi-key .ensures) ∙ asked .before .enum-told3 .given .1 in
+    let t = ap isCacheable n ∙ sym (asked .is-cachable-cmd .ensures) ∙ c .before .before .before .if1 .taken in
+    let a = asked .before .before .before .before .before .before .args in
     let u = ap₂ plan.mayHave n (args-count (a .bytes .now) (a .k .left) (a .k .at)) ∙ sym (c .before .before .may-have .ensures) ∙ c .before .if2 .taken in
     let e = c .ask-one .ensures in
     (e .0 ∙ sym (laws.named-one _ _ _ m t u), e .1)
 
 returns-4 : tie.Need-returns-4
 returns-4 c =
-    let n = sym (c .before .before .before .before .before .before .before .bytes-in .ensures) in
-    let m = ap multiKey n ∙ sym (c .before .before .before .before .before .before .is-multi-key .ensures) ∙ c .before .before .before .before .enum-told3 .given .1 in
-    let t = ap isCacheable n ∙ sym (c .before .before .before .is-cachable-cmd .ensures) ∙ c .before .before .if1 .taken in
-    let a = c .before .before .before .before .before .before .before .before .before .args in
+    let asked = c .before .before .before in
+    let n = sym (asked .before .before .before .before .bytes-in .ensures) in
+    let m = ap multiKey n ∙ sym (asked .before .before .before .is-multi-key .ensures) ∙ asked .before .enum-told3 .given .1 in
+    let t = ap isCacheable n ∙ sym (asked .is-cachable-cmd .ensures) ∙ c .before .before .if1 .taken in
+    let a = asked .before .before .before .before .before .before .args in
     let u = ap₂ plan.mayHave n (args-count (a .bytes .now) (a .k .left) (a .k .at)) ∙ sym (c .before .may-have .ensures) ∙ c .if2 .left in
     (sym (laws.named-many _ _ _ m t u), tt)
 
 returns-5 : tie.Need-returns-5
 returns-5 c =
-    let n = sym (c .before .before .before .before .before .bytes-in .ensures) in
-    let m = ap multiKey n ∙ sym (c .before .before .before .before .is-multi-key .ensures) ∙ c .before .before .enum-told3 .given .1 in
-    let t = ap isCacheable n ∙ sym (c .before .is-cachable-cmd .ensures) ∙ c .if1 .left in
+    let asked = c .before in
+    let n = sym (asked .before .before .before .before .bytes-in .ensures) in
+    let m = ap multiKey n ∙ sym (asked .before .before .before .is-multi-key .ensures) ∙ asked .before .enum-told3 .given .1 in
+    let t = ap isCacheable n ∙ sym (asked .is-cachable-cmd .ensures) ∙ c .if1 .left in
     (sym (laws.named-none _ _ _ m t), tt)
 
 pub ask-named-spec : {M : Type 1} → statement M
