@@ -14,7 +14,7 @@
  *    3   the call record is longer than 16 MiB; in a single call the key than 65,535 bytes, the command key or the value than 16 MiB
  *    4   the clock and a command's TTL add up to more than 64 bits hold
  *    5   the plan buffer or the send buffer is too small
- *    6   replies, push or value to store are not one RESP3 value, whole and alone, within 16 MiB and 16 levels
+ *    6   replies, push or value to store are not one RESP3 value, whole and alone, within 16 MiB and 16 levels; null may be `_`, `$-1` or `*-1`
  *    7   the replies are no list, or a command finds no fitting reply in it
  *    8   the answer buffer is too small
  *    9   no run of calls from a setup of this size leaves this arena
@@ -149,8 +149,8 @@ redis_cache_served_return redis_cache_served(const uint8_t *plan, size_t plan_le
  * once for each time that it asked. Nothing refuses it. */
 redis_cache_value_end_return redis_cache_value_end(const uint8_t *received, size_t received_len);
 
-/* Does what a push asks for: where its first element is the blob string `invalidate`, the keys in the array behind it are dropped, or all where `_`
- * stands there; any other push, and any other value, is ignored and returns 0. Causes: 1, 9, 6. */
+/* Does what a push asks for: where its first element is the blob string `invalidate`, the keys in the array behind it are dropped, or all where a
+ * null stands there; any other push, and any other value, is ignored and returns 0. Causes: 1, 9, 6. */
 uint64_t redis_cache_push(uint8_t *arena, size_t arena_len, uint64_t size, uint64_t mode, uint64_t ttl, const uint8_t *push, size_t push_len,
                           uint64_t (*counts)[3]);
 

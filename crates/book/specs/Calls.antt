@@ -39,7 +39,7 @@ pub data Call : Type 0 where
   resolving : ℕ → List Storing → Call
   -- one that cause 7 refuses: epoch, and the stores that 7 leaves
   resolving7 : ℕ → List Storing → Call
-  -- a push of keys (of none, where rule U1 passes it over), and one of `_`
+  -- a push of keys (of none, where rule U1 passes it over), and one of a null
   push : List Bytes → Call
   pushAll : Call
   -- one lookup, store or invalidation by itself, as the Rust's `ShardedLRU` has them

@@ -24,7 +24,7 @@ use Rattle.call_record.specs.declared.Checked.the-variants.{Wrong}
 use Rattle.cursor.specs.At.{argsAt, argsEnd, commandsAt, recordAt}
 use Rattle.resp3.specs.Kinds.{kindOf}
 use Rattle.resp3.specs.Value.{encode}
-use Rattle.resp3.specs.Ends.{lengthAt, crlfEnd, blobEnd, iter, bodyHead, headAt, valueEnd, isValue}
+use Rattle.resp3.specs.Ends.{lengthAt, crlfEnd, blobEnd, iter, bodyHead, nullWordB, oneEnd, kindHead, headAt, valueEnd, isValue}
 use Rattle.siphash.specs.Sip.{rotated, sipRound, rounds, initial, compressed, absorbed, lastWord, finished, sipHash}
 use Rattle.book.specs.Book.{Counts, plus, book-defs}
 use Rattle.book.specs.Calls.{ons, lookups, call-defs}
@@ -52,10 +52,9 @@ cause-case-defs = tt
 
 unfoldable pub call-case-defs : Unit {0}
 unfolding
-    cause-case-defs same digits crlfB endedDef finDef numDef kindOf encode lengthAt crlfEnd blobEnd iter bodyHead headAt valueEnd isValue rotated sipRound
-    rounds
-    initial compressed absorbed lastWord finished sipHash readByte upto word rep name-defs multiKey singleName
-    encArgument checkOf checkDef argsAt argsEnd commandsAt recordAt ask-defs outcome-defs sent-defs plan-defs planning-defs
+    cause-case-defs same digits crlfB endedDef finDef numDef kindOf encode lengthAt crlfEnd blobEnd iter bodyHead headAt kindHead oneEnd nullWordB valueEnd
+    isValue rotated sipRound rounds initial compressed absorbed lastWord finished sipHash readByte upto word rep name-defs multiKey singleName encArgument
+    checkOf checkDef argsAt argsEnd commandsAt recordAt ask-defs outcome-defs sent-defs plan-defs planning-defs
 call-case-defs = tt
 
 -- ---- records, and what is held

@@ -14,7 +14,8 @@ use Rattle.decimal.specs.Digits.{digits}
 use Rattle.decimal.specs.Read.{crlfB, endedDef, finDef, numDef}
 use Rattle.resp3.specs.Kinds.{kindOf}
 use Rattle.resp3.specs.Value.{plainB, encode}
-use Rattle.resp3.specs.Ends.{lengthAt, crlfEnd, plain, lineEnd, blobEnd, verbatimEnd, numberEnd, booleanEnd, iter, bodyHead, headAt, valueEnd, isValue}
+use Rattle.resp3.specs.Ends.{lengthAt, crlfEnd, plain, lineEnd, blobEnd, verbatimEnd, numberEnd, booleanEnd, iter, bodyHead}
+use Rattle.resp3.specs.Ends.{nullWordB, oneEnd, kindHead, headAt, valueEnd, isValue}
 use Rattle.resp3.specs.Decode as resp
 use Rattle.siphash.specs.Sip.{rotated, sipRound, rounds, initial, compressed, absorbed, lastWord, finished, sipHash}
 use Rattle.book.specs.Book.{plus, book-defs}
@@ -38,11 +39,11 @@ use Rattle.call_entry.specs.Entered.{onRows, entered}
 -- one name that opens the whole call
 unfoldable pub case-defs : Unit {0}
 unfolding book-defs call-defs ons stores refusals le readLe part put head itemHead encEntry encEntries encItem encItems encShard encShards layout.encode
-    readEntry readEntries readItem readItems readShard readArena every distinctKeys distinctCommands mayStore itemFits itemFine rowFine rowsFine isImage
-    decode lend setupOf checked refused settingsOf digits crlfB endedDef finDef numDef kindOf plainB encode lengthAt crlfEnd plain lineEnd blobEnd
-    verbatimEnd numberEnd booleanEnd iter bodyHead headAt valueEnd isValue resp.bytesAt resp.lineAt resp.integerAt resp.valuesAt resp.bodyOf resp.iterOf
-    resp.valueOf resp.decode rotated sipRound rounds initial compressed absorbed lastWord finished sipHash plan-defs order-defs decode-defs valueAt placeAt
-    valuesAt placesAt commandsOf planRead resolve resultBytes fits toldTo refusedOf answerOf bufferAfter resolvedOn planned onRows entered resolveCall
+    readEntry readEntries readItem readItems readShard readArena every distinctKeys distinctCommands mayStore itemFits itemFine rowFine rowsFine isImage decode
+    lend setupOf checked refused settingsOf digits crlfB endedDef finDef numDef kindOf plainB encode lengthAt crlfEnd plain lineEnd blobEnd verbatimEnd
+    numberEnd booleanEnd iter bodyHead headAt kindHead oneEnd nullWordB valueEnd isValue resp.bytesAt resp.lineAt resp.integerAt resp.valuesAt resp.bodyOf
+    resp.iterOf resp.valueOf resp.decode rotated sipRound rounds initial compressed absorbed lastWord finished sipHash plan-defs order-defs decode-defs valueAt
+    placeAt valuesAt placesAt commandsOf planRead resolve resultBytes fits toldTo refusedOf answerOf bufferAfter resolvedOn planned onRows entered resolveCall
 case-defs = tt
 
 -- a fresh cache of n bytes

@@ -14,7 +14,7 @@ use Rattle.buffer.specs.Same.{Bytes, same}
 use Rattle.buffer.specs.SameLaws.{same-eq}
 use Rattle.buffer.specs.Ascii.{ascii}
 use Rattle.resp3.specs.declared.Kind.the-variants.{BlobString}
-use Rattle.resp3.specs.Value.{Value, Values, blobString, simpleString, simpleError, number, null, double, boolean, blobError, verbatimString}
+use Rattle.resp3.specs.Value.{Spelling, Value, Values, blobString, simpleString, simpleError, number, nullAs, double, boolean, blobError, verbatimString}
 use Rattle.resp3.specs.Value.{bigNumber, array, map, set, attribute, push, none, more}
 use Rattle.resp3_element.specs.declared.Integer.the-variants.{Is, No}
 use Rattle.resp3_element.specs.Meaning.{ofKind, isError, isNull, integerOf, blobOf, arrayOf, pushOf}
@@ -33,7 +33,7 @@ array-only (blobString xs) vs e = absurd (Option·none-ne-some vs e)
 array-only (simpleString xs) vs e = absurd (Option·none-ne-some vs e)
 array-only (simpleError xs) vs e = absurd (Option·none-ne-some vs e)
 array-only (number z) vs e = absurd (Option·none-ne-some vs e)
-array-only null vs e = absurd (Option·none-ne-some vs e)
+array-only (nullAs q) vs e = absurd (Option·none-ne-some vs e)
 array-only (double xs) vs e = absurd (Option·none-ne-some vs e)
 array-only (boolean b) vs e = absurd (Option·none-ne-some vs e)
 array-only (blobError xs) vs e = absurd (Option·none-ne-some vs e)
@@ -54,7 +54,7 @@ push-only (blobString xs) vs e = absurd (Option·none-ne-some vs e)
 push-only (simpleString xs) vs e = absurd (Option·none-ne-some vs e)
 push-only (simpleError xs) vs e = absurd (Option·none-ne-some vs e)
 push-only (number z) vs e = absurd (Option·none-ne-some vs e)
-push-only null vs e = absurd (Option·none-ne-some vs e)
+push-only (nullAs q) vs e = absurd (Option·none-ne-some vs e)
 push-only (double xs) vs e = absurd (Option·none-ne-some vs e)
 push-only (boolean b) vs e = absurd (Option·none-ne-some vs e)
 push-only (blobError xs) vs e = absurd (Option·none-ne-some vs e)
@@ -72,7 +72,7 @@ integer-only (blobString xs) i e = no-integer e
 integer-only (simpleString xs) i e = no-integer e
 integer-only (simpleError xs) i e = no-integer e
 integer-only (number z) i e = let q : z ≡ i = cc in ap number q
-integer-only null i e = no-integer e
+integer-only (nullAs q) i e = no-integer e
 integer-only (double xs) i e = no-integer e
 integer-only (boolean b) i e = no-integer e
 integer-only (blobError xs) i e = no-integer e
@@ -87,13 +87,13 @@ integer-only (push us) i e = no-integer e
 pub integer-means : (v : Value) (z : ℤ) → (integerOf v ≡ Is z) ↔ (v ≡ number z)
 integer-means v z = (integer-only v z, λ e. ap integerOf e)
 
--- `_`
-null-only : (v : Value) → isNull v ≡ true → v ≡ null
+-- a null, in some spelling
+pub null-only : (v : Value) → isNull v ≡ true → (q : Spelling) × (v ≡ nullAs q)
 null-only (blobString xs) e = absurd (false≢true e)
 null-only (simpleString xs) e = absurd (false≢true e)
 null-only (simpleError xs) e = absurd (false≢true e)
 null-only (number z) e = absurd (false≢true e)
-null-only null e = refl
+null-only (nullAs q) e = (q, refl)
 null-only (double xs) e = absurd (false≢true e)
 null-only (boolean b) e = absurd (false≢true e)
 null-only (blobError xs) e = absurd (false≢true e)
@@ -111,7 +111,7 @@ blob-only (blobString xs) e = refl
 blob-only (simpleString xs) e = absurd (false≢true e)
 blob-only (simpleError xs) e = absurd (false≢true e)
 blob-only (number z) e = absurd (false≢true e)
-blob-only null e = absurd (false≢true e)
+blob-only (nullAs q) e = absurd (false≢true e)
 blob-only (double xs) e = absurd (false≢true e)
 blob-only (boolean b) e = absurd (false≢true e)
 blob-only (blobError xs) e = absurd (false≢true e)
@@ -143,7 +143,7 @@ error-none (blobString xs) n m = refl
 error-none (simpleString xs) n m = refl
 error-none (simpleError xs) n m = absurd (n xs refl)
 error-none (number z) n m = refl
-error-none null n m = refl
+error-none (nullAs q) n m = refl
 error-none (double xs) n m = refl
 error-none (boolean b) n m = refl
 error-none (blobError xs) n m = absurd (m xs refl)
@@ -182,12 +182,13 @@ pub keys-pushed-so : (ks vs : Values) → pushed (invalidation (array ks) vs) �
 unfolding pushed same
 keys-pushed-so ks vs = refl
 
-pub all-pushed-so : (vs : Values) → pushed (invalidation null vs) ≡ calls.pushAll
+pub all-pushed-so : (q : Spelling) (vs : Values) → pushed (invalidation (nullAs q) vs) ≡ calls.pushAll
 unfolding pushed same
-all-pushed-so vs = refl
+all-pushed-so q vs = refl
 
 -- any other
-pub none-pushed-so : (v : Value) → ((ks vs : Values) → v ≡ invalidation (array ks) vs → ⊥) → ((vs : Values) → v ≡ invalidation null vs → ⊥)
+pub none-pushed-so : (v : Value) → ((ks vs : Values) → v ≡ invalidation (array ks) vs → ⊥)
+    → ((q : Spelling) (vs : Values) → v ≡ invalidation (nullAs q) vs → ⊥)
     → pushed v ≡ calls.push []
 unfolding pushed
 none-pushed-so v keys all = go (pushOf v) refl
@@ -196,7 +197,9 @@ none-pushed-so v keys all = go (pushOf v) refl
     second : (w : Value) (us : Values) → v ≡ invalidation w us → (o : Option Values) → arrayOf w ≡ o → invalidating o (isNull w) ≡ calls.push []
     second w us q (some ks) e = absurd (keys ks us (q ∙ ap (λ (z : Value). invalidation z us) (array-only w ks e)))
     second w us q option.none e =
-        byTest (isNull w) (λ t. absurd (all us (q ∙ ap (λ (z : Value). invalidation z us) (null-only w t)))) (λ t. rw t refl)
+        byTest (isNull w)
+        (λ t. let n = null-only w t in absurd (all (n .0) us (q ∙ ap (λ (z : Value). invalidation z us) (n .1))))
+        (λ t. rw t refl)
 
     go : (o : Option Values) → pushOf v ≡ o → fromPush o ≡ calls.push []
     go option.none q = refl

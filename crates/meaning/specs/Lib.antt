@@ -4,6 +4,7 @@ pub mod Nodes
 pub mod Outcomes
 pub mod Meaning
 pub mod Elements
+pub mod NullBytes
 pub mod NodeLaws
 pub mod WrittenLaws
 pub mod OutcomeLaws

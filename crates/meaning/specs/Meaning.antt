@@ -15,7 +15,7 @@
 use mathlib.Core.Path.{_≡_}
 use mathlib.Core.Logic.{_↔_}
 use mathlib.Core.Bool.{Bool, true, false}
-use mathlib.Core.List.{List, [], _∷_}
+use mathlib.Core.List.{List, [], _∷_, _++_}
 use mathlib.Core.Option.{none, some}
 use Prim.Native.Nat.{ℕ, _≤_, _<_}
 use lib.ListN.{length}
@@ -27,7 +27,7 @@ use Rattle.config.specs.Causes.{badConfig, tooLong, badReply, badArena, badPlan
 use Rattle.config.specs.Config.{refused, settingsOf}
 use Rattle.config.specs.declared.Settings.{Settings}
 use Rattle.format.specs.Lists.{All}
-use Rattle.resp3.specs.Value.{Value, Values, blobString, simpleError, number, null, blobError, array, push, none as noValues, more, Means, IsValue}
+use Rattle.resp3.specs.Value.{Spelling, Value, Values, blobString, simpleError, number, nullAs, blobError, array, push, none as noValues, more, Means, IsValue}
 use Rattle.resp3.specs.Value.{encode as valueBytes, encs}
 use Rattle.resp3_element.specs.declared.Integer.the-variants.{Is}
 use Rattle.resp3_element.specs.Meaning.{isError, integerOf, arrayOf}
@@ -233,6 +233,9 @@ pub record Readings : Type 0 where
   -- the value's test, and the value that is read
   pub value : (s : Bytes) → (isValue s ≡ true) ↔ IsValue s
   pub value-of : (s : Bytes) (v : Value) → Means s v → resp.decode s ≡ v
+  -- of all that begins with `$-` or `*-`, one null each is a value
+  pub dollar-null : (r : Bytes) → IsValue (ascii "$-" ++ r) ↔ (r ≡ ascii "1\r\n")
+  pub star-null : (r : Bytes) → IsValue (ascii "*-" ++ r) ↔ (r ≡ ascii "1\r\n")
   -- the plan that is read, and that there is none
   pub plan-of : (s : Bytes) (p : Plan) → (decodePlan s ≡ some p) ↔ (GoodPlan p × (s ≡ encPlan p))
   pub no-plan : (s : Bytes) → (decodePlan s ≡ none) ↔ (IsPlan s → ⊥)
@@ -264,10 +267,11 @@ pub record Readings : Type 0 where
   pub no-error : (v : Value) → (isError v ≡ false) ↔ ((xs : Bytes) → (v ≡ simpleError xs → ⊥) × (v ≡ blobError xs → ⊥))
   pub replies-of : (v : Value) (vs : Values) → (repliesOf false v ≡ some vs) ↔ (v ≡ array vs)
   pub replies-in : (v : Value) (vs : Values) → (repliesOf true v ≡ some vs) ↔ (v ≡ array (more (array vs) noValues))
-  -- a push as a call on the book: one with keys, one that drops everything, any other; the keys are the blobs among the elements
+  -- a push as a call on the book: one with keys, one with a null, which drops everything, any other; the keys are the blobs among the elements
   pub keys-pushed : (ks vs : Values) → pushed (invalidation (array ks) vs) ≡ pushes.push (keysOf ks)
-  pub all-pushed : (vs : Values) → pushed (invalidation null vs) ≡ pushes.pushAll
-  pub none-pushed : (v : Value) → ((ks vs : Values) → v ≡ invalidation (array ks) vs → ⊥) → ((vs : Values) → v ≡ invalidation null vs → ⊥)
+  pub all-pushed : (q : Spelling) (vs : Values) → pushed (invalidation (nullAs q) vs) ≡ pushes.pushAll
+  pub none-pushed : (v : Value) → ((ks vs : Values) → v ≡ invalidation (array ks) vs → ⊥)
+      → ((q : Spelling) (vs : Values) → v ≡ invalidation (nullAs q) vs → ⊥)
       → pushed v ≡ pushes.push []
   pub keys : (vs : Values) (xs : Bytes) → (keysOf noValues ≡ []) × (keysOf (more (blobString xs) vs) ≡ xs ∷ keysOf vs)
   pub no-key : (v : Value) (vs : Values) → ((xs : Bytes) → v ≡ blobString xs → ⊥) → keysOf (more v vs) ≡ keysOf vs

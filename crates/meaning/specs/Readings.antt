@@ -40,6 +40,7 @@ use Rattle.meaning.specs.OutcomeLaws.{recorded-means, resolved-means, re
 use Rattle.meaning.specs.WrittenLaws.{means-written, encode-written, row-bytes, within-written}
 use Rattle.meaning.specs.Elements.{array-means, integer-means, error-means, inner-means, keys-mean, no-key-means, keys-pushed-so, all-pushed-so}
 use Rattle.meaning.specs.Elements.{none-pushed-so}
+use Rattle.meaning.specs.NullBytes.{dollar-minus, star-minus}
 
 -- ---- what may be stored
 
@@ -156,6 +157,8 @@ readings =
       record-of = λ r w. decoded (encRecord r) r w refl .is;
       value = values.value-law;
       value-of = values.decode-law;
+      dollar-null = dollar-minus;
+      star-null = star-minus;
       plan-of = plans.decode-law;
       no-plan = plans.decode-none;
       order = order-means;

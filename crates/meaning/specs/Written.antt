@@ -9,8 +9,9 @@ use Prim.Native.Char.{code}
 use lib.ListN.{length}
 use lib.IntN.{ℤ}
 use Rattle.buffer.specs.Same.{Bytes}
-use Rattle.resp3.specs.Value.{Value, Values, Pairs, blobString, simpleString, simpleError, number, null, double, boolean, blobError, verbatimString, bigNumber}
-use Rattle.resp3.specs.Value.{array, map, set, attribute, push, none, more, nil, pair, count, countPairs, oneLine, Fits64, crlf, counted, framed, integer}
+use Rattle.resp3.specs.Value.{blobNull, arrayNull, Value, Values, Pairs, blobString, simpleString, simpleError, number, nullAs, null, double, boolean}
+use Rattle.resp3.specs.Value.{blobError, verbatimString, bigNumber, array, map, set, attribute, push, none, more, nil, pair, count, countPairs, oneLine}
+use Rattle.resp3.specs.Value.{Fits64, crlf, counted, framed, integer}
 
 -- what is inside a value, where W says of each value how it is written
 module _ (W : Value → Bytes → Bytes → Type 0) where
@@ -24,13 +25,15 @@ module _ (W : Value → Bytes → Bytes → Type 0) where
     noPair : (r : Bytes) → PairRow nil r r
     onePair : (k v : Value) (ps : Pairs) (r s u w : Bytes) → W k u w → W v s u → PairRow ps r s → PairRow (pair k v ps) r w
 
-  -- the fifteen kinds: integers fit 64 bits, a line has no CR and no LF, a format is three bytes
+  -- the fifteen kinds, and the two ways in which RESP2 spells a null: integers fit 64 bits, a line has no CR and no LF, a format is three bytes
   pub data Kinds : Value → Bytes → Bytes → Type 0 where
     aBlobString : (xs r : Bytes) → Kinds (blobString xs) r (code "$" ∷ framed xs r)
     aSimpleString : (xs r : Bytes) → oneLine xs ≡ true → Kinds (simpleString xs) r (code "+" ∷ (xs ++ crlf r))
     aSimpleError : (xs r : Bytes) → oneLine xs ≡ true → Kinds (simpleError xs) r (code "-" ∷ (xs ++ crlf r))
     aNumber : (z : ℤ) (r : Bytes) → Fits64 z → Kinds (number z) r (code ":" ∷ (integer z ++ crlf r))
     aNull : (r : Bytes) → Kinds null r (code "_" ∷ crlf r)
+    aBlobNull : (r : Bytes) → Kinds (nullAs blobNull) r (code "$" ∷ code "-" ∷ code "1" ∷ crlf r)
+    anArrayNull : (r : Bytes) → Kinds (nullAs arrayNull) r (code "*" ∷ code "-" ∷ code "1" ∷ crlf r)
     aDouble : (xs r : Bytes) → oneLine xs ≡ true → Kinds (double xs) r (code "," ∷ (xs ++ crlf r))
     aBoolean : (b : Bool) (r : Bytes) → Kinds (boolean b) r (code "#" ∷ cond b (code "t") (code "f") ∷ crlf r)
     aBlobError : (xs r : Bytes) → Kinds (blobError xs) r (code "!" ∷ framed xs r)

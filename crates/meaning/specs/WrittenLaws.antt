@@ -9,12 +9,14 @@ use native.Mathlib.Omega.{arith}
 use lib.ListN.{length}
 use Rattle.buffer.specs.Same.{Bytes}
 use Rattle.config.specs.Limits.{maxDepth, maxBytes}
-use Rattle.resp3.specs.Value.{Value, Values, Pairs, blobString, simpleString, simpleError, number, null, double, boolean, blobError, verbatimString, bigNumber}
+use Rattle.resp3.specs.Value.{underscore, blobNull, arrayNull, Value, Values, Pairs, blobString, simpleString, simpleError, number, nullAs, double, boolean}
+use Rattle.resp3.specs.Value.{blobError, verbatimString, bigNumber}
 use Rattle.resp3.specs.Value.{array, map, set, attribute, push, none, more, nil, pair, count, countPairs, counted, deepest, deepestPairs, depth}
 use Rattle.resp3.specs.Value.{Valid, Valids, ValidPairs, enc, encs, encPairs, encode, Means}
 use Rattle.resp3_prefix.specs.Meaning.{Within}
 use Rattle.meaning.specs.Written.{Row, noValue, oneValue, PairRow, noPair, onePair, Kinds, aBlobString, aSimpleString, aSimpleError, aNumber, aNull}
-use Rattle.meaning.specs.Written.{aDouble, aBoolean, aBlobError, aVerbatimString, aBigNumber, anArray, aMap, aSet, anAttribute, aPush, Written}
+use Rattle.meaning.specs.Written.{aBlobNull, anArrayNull, aDouble, aBoolean, aBlobError, aVerbatimString, aBigNumber, anArray, aMap, aSet}
+use Rattle.meaning.specs.Written.{anAttribute, aPush, Written}
 
 -- ---- what is written is an encoding
 
@@ -61,6 +63,8 @@ module _ (d : ℕ) (one : (v : Value) (r s : Bytes) → Written d v r s → Enco
   kinds-encoded (aSimpleError xs r l) = record { ok = l; deep = omega arith; is = refl }
   kinds-encoded (aNumber z r l) = record { ok = l; deep = omega arith; is = refl }
   kinds-encoded (aNull r) = record { ok = tt; deep = omega arith; is = refl }
+  kinds-encoded (aBlobNull r) = record { ok = tt; deep = omega arith; is = refl }
+  kinds-encoded (anArrayNull r) = record { ok = tt; deep = omega arith; is = refl }
   kinds-encoded (aDouble xs r l) = record { ok = l; deep = omega arith; is = refl }
   kinds-encoded (aBoolean b r) = record { ok = tt; deep = omega arith; is = refl }
   kinds-encoded (aBlobError xs r) = record { ok = tt; deep = omega arith; is = refl }
@@ -115,7 +119,9 @@ module _ (d : ℕ) (one : (v : Value) (r : Bytes) → Valid v → depth v ≤ d 
   kinds-written (simpleString xs) r ok l = aSimpleString xs r ok
   kinds-written (simpleError xs) r ok l = aSimpleError xs r ok
   kinds-written (number z) r ok l = aNumber z r ok
-  kinds-written null r ok l = aNull r
+  kinds-written (nullAs underscore) r ok l = aNull r
+  kinds-written (nullAs blobNull) r ok l = aBlobNull r
+  kinds-written (nullAs arrayNull) r ok l = anArrayNull r
   kinds-written (double xs) r ok l = aDouble xs r ok
   kinds-written (boolean b) r ok l = aBoolean b r
   kinds-written (blobError xs) r ok l = aBlobError xs r

@@ -14,7 +14,8 @@ use Rattle.decimal.specs.Digits.{digits}
 use Rattle.decimal.specs.Read.{crlfB, endedDef, finDef, numDef}
 use Rattle.resp3.specs.Kinds.{kindOf}
 use Rattle.resp3.specs.Value.{plainB, encode}
-use Rattle.resp3.specs.Ends.{lengthAt, crlfEnd, plain, lineEnd, blobEnd, verbatimEnd, numberEnd, booleanEnd, iter, bodyHead, headAt, valueEnd, isValue}
+use Rattle.resp3.specs.Ends.{lengthAt, crlfEnd, plain, lineEnd, blobEnd, verbatimEnd, numberEnd, booleanEnd, iter, bodyHead}
+use Rattle.resp3.specs.Ends.{nullWordB, oneEnd, kindHead, headAt, valueEnd, isValue}
 use Rattle.arena.specs.Decode.{every}
 use Rattle.planning.specs.Plan.{Node, handOn, servedValue, allServed, missingKey, several, waitingPlace, endOfSeveral, plan-defs}
 use Rattle.planning.specs.Rules.{order-defs}
@@ -22,8 +23,8 @@ use Rattle.plan.specs.Decode.{goodNode, isPlan, decodePlan, decode-defs}
 
 -- one name that opens all that these cases compute
 unfoldable case-defs : Unit {0}
-unfolding decode-defs plan-defs order-defs every same le readLe part encode digits isValue valueEnd headAt bodyHead iter booleanEnd numberEnd verbatimEnd
-    blobEnd lineEnd plain plainB crlfEnd lengthAt kindOf numDef finDef endedDef crlfB
+unfolding decode-defs plan-defs order-defs every same le readLe part encode digits isValue valueEnd headAt kindHead oneEnd nullWordB bodyHead iter booleanEnd
+    numberEnd verbatimEnd blobEnd lineEnd plain plainB crlfEnd lengthAt kindOf numDef finDef endedDef crlfB
 case-defs = tt
 
 -- flags, `_`, count

@@ -16,7 +16,8 @@ use Rattle.decimal.specs.Digits.{digits}
 use Rattle.decimal.specs.Read.{crlfB, endedDef, finDef, numDef}
 use Rattle.resp3.specs.Kinds.{kindOf}
 use Rattle.resp3.specs.Value.{plainB}
-use Rattle.resp3.specs.Ends.{lengthAt, crlfEnd, plain, lineEnd, blobEnd, verbatimEnd, numberEnd, booleanEnd, iter, bodyHead, headAt, valueEnd, isValue}
+use Rattle.resp3.specs.Ends.{lengthAt, crlfEnd, plain, lineEnd, blobEnd, verbatimEnd, numberEnd, booleanEnd, iter, bodyHead}
+use Rattle.resp3.specs.Ends.{nullWordB, oneEnd, kindHead, headAt, valueEnd, isValue}
 use Rattle.siphash.specs.Sip.{rotated, sipRound, rounds, initial, compressed, absorbed, lastWord, finished, sipHash, sipHash13}
 use Rattle.book.specs.Book.{Setup, Entry, plus, book-defs}
 use Rattle.book.specs.Calls.{call-defs, ons, invalidations}
@@ -33,11 +34,11 @@ use Rattle.push.specs.Push.{pushedOn, imaged, pushCall}
 
 -- one name that opens all that these cases compute
 unfoldable case-defs : Unit {0}
-unfolding pushedOn imaged onRows entered pushCall checked refused settingsOf setupOf book-defs call-defs ons invalidations same le readLe part put head
-    itemHead encEntry encEntries encItem encItems encShard encShards encode readEntry readEntries readItem readItems readShard readArena every distinctKeys
-    distinctCommands mayStore itemFits itemFine rowFine rowsFine isImage decode digits isValue valueEnd headAt bodyHead iter booleanEnd numberEnd
-    verbatimEnd blobEnd lineEnd plain plainB crlfEnd lengthAt kindOf numDef finDef endedDef crlfB lend pushed bytesAt lineAt integerAt flagAt valuesAt
-    pairsAt attributeAt bodyOf iterOf valueOf decodeValue rotated sipRound rounds initial compressed absorbed lastWord finished sipHash
+unfolding pushedOn imaged onRows entered pushCall checked refused settingsOf setupOf book-defs call-defs ons invalidations same le readLe part put head itemHead
+    encEntry encEntries encItem encItems encShard encShards encode readEntry readEntries readItem readItems readShard readArena every distinctKeys
+    distinctCommands mayStore itemFits itemFine rowFine rowsFine isImage decode digits isValue valueEnd headAt kindHead oneEnd nullWordB bodyHead iter
+    booleanEnd numberEnd verbatimEnd blobEnd lineEnd plain plainB crlfEnd lengthAt kindOf numDef finDef endedDef crlfB lend pushed bytesAt lineAt integerAt
+    flagAt valuesAt pairsAt attributeAt bodyOf iterOf valueOf decodeValue rotated sipRound rounds initial compressed absorbed lastWord finished sipHash
 case-defs = tt
 
 -- an arena of 64 bytes without items, and what its caller holds
@@ -92,6 +93,18 @@ key-pushed = refl
 all-pushed : pushCall 1 0 0 (ascii ">2\r\n$10\r\ninvalidate\r\n_\r\n") filled ≡ emptied
 unfolding case-defs
 all-pushed = refl
+
+-- RESP2's nulls say the same
+resp2-nulls-pushed :
+    (pushCall 1 0 0 (ascii ">2\r\n$10\r\ninvalidate\r\n$-1\r\n") filled ≡ emptied)
+    × (pushCall 1 0 0 (ascii ">2\r\n$10\r\ninvalidate\r\n*-1\r\n") filled ≡ emptied)
+unfolding case-defs
+resp2-nulls-pushed = (refl, refl)
+
+-- among the keys `$-1` is skipped, and those behind it are not
+null-among-keys : pushCall 1 0 0 (ascii ">2\r\n$10\r\ninvalidate\r\n*2\r\n$-1\r\n$1\r\na\r\n") filled ≡ emptied
+unfolding case-defs
+null-among-keys = refl
 
 -- another key's push, and a value that is no push, leave it
 other-pushed : pushCall 1 0 0 (ascii ">2\r\n$10\r\ninvalidate\r\n*1\r\n$1\r\nb\r\n") filled ≡ record { cause = 0; value = none; held = filled }

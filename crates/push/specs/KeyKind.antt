@@ -4,7 +4,7 @@ use mathlib.Core.Bool.{Bool, true, false}
 use Rattle.resp3.specs.declared.Kind.{Kind}
 use Rattle.resp3.specs.declared.Kind.the-variants.{BlobString, SimpleString, SimpleError, Number, Null, Double, Boolean, BlobError, VerbatimString}
 use Rattle.resp3.specs.declared.Kind.the-variants.{BigNumber, Array, Map, Set, Attribute, Push, Unknown}
-use Rattle.resp3.specs.Value.{Value, blobString, simpleString, simpleError, number, null, double, boolean, blobError, verbatimString}
+use Rattle.resp3.specs.Value.{Value, blobString, simpleString, simpleError, number, nullAs, double, boolean, blobError, verbatimString}
 use Rattle.resp3.specs.Value.{bigNumber, array, map, set, attribute, push}
 use Rattle.resp3_element.specs.Meaning.{valueKind, ofKind}
 
@@ -33,7 +33,7 @@ key-kind (blobString xs) = refl
 key-kind (simpleString xs) = refl
 key-kind (simpleError xs) = refl
 key-kind (number z) = refl
-key-kind null = refl
+key-kind (nullAs q) = refl
 key-kind (double xs) = refl
 key-kind (boolean b) = refl
 key-kind (blobError xs) = refl

@@ -11,7 +11,7 @@ use Rattle.buffer.specs.Ascii.{ascii}
 use Rattle.config.specs.declared.Settings.{Settings}
 use Rattle.statistics.specs.declared.Statistics.{Statistics}
 use Rattle.resp3.specs.declared.Kind.the-variants.{BlobString}
-use Rattle.resp3.specs.Value.{Value, Values, blobString, simpleString, simpleError, number, null, double, boolean, blobError, verbatimString}
+use Rattle.resp3.specs.Value.{Value, Values, blobString, simpleString, simpleError, number, nullAs, double, boolean, blobError, verbatimString}
 use Rattle.resp3.specs.Value.{bigNumber, array, map, set, attribute, push as pushValue, none, more, Means}
 use Rattle.resp3_element.specs.declared.Cursor.{Cursor}
 use Rattle.resp3_element.specs.declared.Elements.{Elements}
@@ -35,7 +35,7 @@ invalidate-law (blobString xs) b e = rw e
 invalidate-law (simpleString xs) b e = rw e
 invalidate-law (simpleError xs) b e = rw e
 invalidate-law (number z) b e = rw e
-invalidate-law null b e = rw e
+invalidate-law (nullAs q) b e = rw e
 invalidate-law (double xs) b e = rw e
 invalidate-law (boolean t) b e = rw e
 invalidate-law (blobError xs) b e = rw e
@@ -229,12 +229,12 @@ module _ (g : Settings) (s u : Bytes) (c : Cursor) (d : Statistics) (bk : Book) 
   by-push option.none h f = absurd h
 
 module _ (p : Setup) (s : Bytes) (bk : Book) where
-  -- it is neither an array nor `_`
+  -- it is neither an array nor a null
   pub no-array : (o : Option Values) (b : Bool) → Holds s No o → b ≡ false → afterCall p (invalidating o b) bk ≡ bk
   no-array (some vs) b h e = absurd h
   no-array option.none b h e = rw e (ignored-is p bk)
 
-  -- it is `_`
+  -- it is a null
   null-all : (o : Option Values) (b : Bool) → Holds s No o → b ≡ true → afterCall p (invalidating o b) bk ≡ after p invalidateAll bk
   null-all (some vs) b h e = absurd h
   null-all option.none b h e = rw e (all-is p bk)
@@ -285,7 +285,7 @@ module _ (p : Setup) (s : Bytes) (bk : Book) where
               subst P (sym (ap (λ (t : Bool). afterCall p (cond t (afterFirst (more w vs)) ignored) bk) (f v (more w vs) st)))
               (by w vs (moves v (more w vs) st))
 
--- it is `_`, and everything was dropped
+-- it is a null, and everything was dropped
 pub by-null : (g : Settings) (s u : Bytes) (d : Statistics) (bk : Book) (o : Option Values) (b : Bool) → Holds s No o → b ≡ true
     → Kept g u d (after (setupNow g) invalidateAll bk)
     → Kept g u d (afterCall (setupNow g) (invalidating o b) bk)

@@ -104,7 +104,7 @@ fn invalidate_keys(
     sum
 }
 
-// By the element behind `invalidate`: its keys where it is an array, everything where it is `_`.
+// By the element behind `invalidate`: its keys where it is an array, everything where it is a null.
 fn invalidate_by(arena: &mut [u8], g: Settings, value: &[u8], counts: Statistics) -> Statistics
     requires { ⌜ Arena g (now arena) × One (now value) ⌝ }
     ensures { λ r. ⌜ ((v : Value) (bk : Book) → Means (now (value .entry)) v → Kept g (now (arena .entry)) counts bk →

@@ -6,6 +6,7 @@ pub mod Result
 pub mod Pushes
 pub mod Cases
 pub mod PushCases
+pub mod NullCases
 pub mod Expiry
 pub mod ResultLaws
 pub mod Made

@@ -10,7 +10,7 @@ use mathlib.Core.Bool.{Bool, true, false}
 use Rattle.buffer.specs.Cases.{byTest}
 use Rattle.config.specs.declared.CacheMode.{CacheMode}
 use Rattle.config.specs.declared.CacheMode.the-variants.{All, OptIn}
-use Rattle.resp3.specs.Value.{Value, Values, blobString, simpleString, simpleError, number, null, double, boolean, blobError, verbatimString}
+use Rattle.resp3.specs.Value.{Value, Values, blobString, simpleString, simpleError, number, nullAs, null, double, boolean, blobError, verbatimString}
 use Rattle.resp3.specs.Value.{bigNumber, array, map, set, attribute, push, none, more, encode}
 use Rattle.resp3_element.specs.Meaning.{isError, integerOf, arrayOf}
 use Rattle.book.specs.Calls.{Missing, Storing}
@@ -114,7 +114,7 @@ module _ (P : Value → Type 0) (Q : Missing → Type 0) (R : Value → Type 0) 
   list-has h (simpleString xs) g = tt
   list-has h (simpleError xs) g = tt
   list-has h (number z) g = tt
-  list-has h null g = tt
+  list-has h (nullAs q) g = tt
   list-has h (double xs) g = tt
   list-has h (boolean b) g = tt
   list-has h (blobError xs) g = tt

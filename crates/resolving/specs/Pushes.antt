@@ -1,5 +1,5 @@
 -- From a push to the book's call: rules U1 to U4 of docs/BEHAVIOUR.md. Assumes nothing: these are the definitions that a reader has to believe.
--- A value under `|` is of the kind attribute, so neither array, blob, `_` nor push.
+-- A value under `|` is of the kind attribute, so neither array, blob, null nor push.
 use mathlib.Core.Bool.{Bool, false, cond}
 use mathlib.Core.List.{List, [], _∷_}
 use mathlib.Core.Option.{Option, some}
@@ -20,7 +20,7 @@ keysOf (more k ks) = cond (ofKind BlobString k) (blobOf k ∷ keysOf ks) (keysOf
 abbrev pub ignored : Call
 ignored = push []
 
--- by what stands in second place (rules U2, U3): the array's elements, or none where it is no array, and whether it is `_`
+-- by what stands in second place (rules U2, U3): the array's elements, or none where it is no array, and whether it is a null
 abbrev pub invalidating : Option Values → Bool → Call
 invalidating (some ks) isNil = push (keysOf ks)
 invalidating option.none isNil = cond isNil pushAll ignored

@@ -6,19 +6,25 @@ use Rattle.decimal.specs.Digits.{digits}
 use Rattle.decimal.specs.Read.{crlfB, endedDef, finDef, numDef}
 use Rattle.buffer.specs.Ascii.{ascii}
 use Rattle.resp3.specs.Kinds.{kindOf}
-use Rattle.resp3.specs.Value.{Value, null, array, none, more, depth, plainB, encode}
-use Rattle.resp3.specs.Ends.{lengthAt, crlfEnd, plain, lineEnd, blobEnd, verbatimEnd, numberEnd, booleanEnd, iter, bodyHead, headAt, valueEnd, isValue}
+use Rattle.resp3.specs.Value.{Value, blobNull, arrayNull, nullAs, null, array, map, none, more, nil, pair, depth, plainB, encode}
+use Rattle.resp3.specs.Ends.{lengthAt, crlfEnd, plain, lineEnd, blobEnd, verbatimEnd, numberEnd, booleanEnd, iter, bodyHead, nullWordB, oneEnd, kindHead}
+use Rattle.resp3.specs.Ends.{headAt, valueEnd, isValue}
+use Rattle.resp3.specs.Decode.{valuesAt, pairsAt, bodyOf, iterOf, valueOf, decode}
 
 -- opens the reading and the writing of values
 unfoldable read : Unit {0}
-unfolding encode digits isValue valueEnd headAt bodyHead iter booleanEnd numberEnd verbatimEnd blobEnd lineEnd plain plainB crlfEnd lengthAt kindOf numDef
-    finDef endedDef crlfB
+unfolding encode digits isValue valueEnd headAt kindHead oneEnd nullWordB bodyHead iter booleanEnd numberEnd verbatimEnd blobEnd lineEnd plain plainB crlfEnd
+    lengthAt kindOf numDef finDef endedDef crlfB
 read = tt
 
--- `_` inside n arrays of one element each
+-- v inside n arrays of one element each
+abbrev pub wrapped : ℕ → Value → Value
+wrapped zero v = v
+wrapped (suc n) v = array (more (wrapped n v) none)
+
+-- `_` inside n arrays
 abbrev pub nested : ℕ → Value
-nested zero = null
-nested (suc n) = array (more (nested n) none)
+nested n = wrapped n null
 
 -- sixteen levels are read
 pub depth-16-read : (depth (nested 15) ≡ 16) × (isValue (encode (nested 15)) ≡ true)
@@ -29,6 +35,11 @@ depth-16-read = (refl, refl)
 pub depth-17-refused : (depth (nested 16) ≡ 17) × (isValue (encode (nested 16)) ≡ false)
 unfolding read
 depth-17-refused = (refl, refl)
+
+-- a null of RESP2's is one level too
+pub depth-of-nulls : (isValue (encode (wrapped 15 (nullAs arrayNull))) ≡ true) × (isValue (encode (wrapped 16 (nullAs arrayNull))) ≡ false)
+unfolding read
+depth-of-nulls = (refl, refl)
 
 -- an attribute's value is a level below it
 pub depth-of-attributes : isValue (ascii "|0\r\n|0\r\n|0\r\n|0\r\n|0\r\n|0\r\n|0\r\n|0\r\n|0\r\n|0\r\n|0\r\n|0\r\n|0\r\n|0\r\n|0\r\n|0\r\n_\r\n") ≡ false
@@ -67,10 +78,41 @@ pub long-length : isValue (ascii "$18446744073709551617\r\na\r\n") ≡ false
 unfolding read
 long-length = refl
 
--- RESP2's nulls, and a streamed string
-pub not-resp3 : (isValue (ascii "$-1\r\n") ≡ false) × (isValue (ascii "*-1\r\n") ≡ false) × (isValue (ascii "$?\r\n") ≡ false)
+-- RESP2's two nulls are nulls, each in its spelling, and no blob string and no array
+pub resp2-nulls :
+    (isValue (ascii "$-1\r\n") ≡ true) × (decode (ascii "$-1\r\n") ≡ nullAs blobNull)
+    × (isValue (ascii "*-1\r\n") ≡ true) × (decode (ascii "*-1\r\n") ≡ nullAs arrayNull)
+unfolding read decode valueOf
+resp2-nulls = (refl, refl, refl, refl)
+
+-- inside an array and a map too
+pub resp2-nulls-inside :
+    (encode (array (more (nullAs blobNull) (more (nullAs arrayNull) (more null none)))) ≡ ascii "*3\r\n$-1\r\n*-1\r\n_\r\n")
+    × (isValue (ascii "*3\r\n$-1\r\n*-1\r\n_\r\n") ≡ true)
+    × (decode (ascii "*3\r\n$-1\r\n*-1\r\n_\r\n") ≡ array (more (nullAs blobNull) (more (nullAs arrayNull) (more null none))))
+    × (isValue (ascii "%1\r\n$-1\r\n*-1\r\n") ≡ true)
+    × (decode (ascii "%1\r\n$-1\r\n*-1\r\n") ≡ map (pair (nullAs blobNull) (nullAs arrayNull) nil))
+unfolding read decode valueOf bodyOf valuesAt pairsAt iterOf
+resp2-nulls-inside = (refl, refl, refl, refl, refl)
+
+-- nothing else with a minus is: no other number and no other kind
+pub no-other-nulls :
+    (isValue (ascii "$-01\r\n") ≡ false) × (isValue (ascii "$-2\r\n") ≡ false) × (isValue (ascii "*-10\r\n") ≡ false) × (isValue (ascii "*-0\r\n") ≡ false)
+    × (isValue (ascii "~-1\r\n") ≡ false) × (isValue (ascii "%-1\r\n") ≡ false) × (isValue (ascii "!-1\r\n") ≡ false) × (isValue (ascii "=-1\r\n") ≡ false)
+    × (isValue (ascii ">-1\r\n") ≡ false)
 unfolding read
-not-resp3 = (refl, refl, refl)
+no-other-nulls = (refl, refl, refl, refl, refl, refl, refl, refl, refl)
+
+-- nor is one cut short
+pub cut-nulls :
+    (isValue (ascii "$-1\r") ≡ false) × (isValue (ascii "$-1") ≡ false) × (isValue (ascii "*-") ≡ false) × (isValue (ascii "$-1\n") ≡ false)
+unfolding read
+cut-nulls = (refl, refl, refl, refl)
+
+-- a streamed string
+pub not-resp3 : isValue (ascii "$?\r\n") ≡ false
+unfolding read
+not-resp3 = refl
 
 -- nothing may follow
 pub trailing : isValue (ascii "_\r\n_\r\n") ≡ false

@@ -4,15 +4,15 @@ use mathlib.Core.Bool.{Bool, true, false, cond}
 use mathlib.Core.List.{[], _∷_, _++_, append-assoc}
 use Prim.Native.Nat.{ℕ, zero, suc, _+_, _-_, _≤_}
 use native.Mathlib.Omega.{arith}
-use lib.ListN.{length, getD, take, drop, length-append, length-drop}
+use lib.ListN.{length, getD, take, drop, length-append}
 use lib.IntN.{ℤ, pos, negsuc}
 use lib.Seq.{take-at, drop-at, getD-at, getD-drop}
 use borrow.Author.Tests.{ne-eqb}
 use Rattle.buffer.specs.Same.{Bytes}
 use Rattle.decimal.specs.Digits.{digits}
 use Rattle.decimal.specs.Read.{numDef}
-use Rattle.decimal.specs.ReadLaws.{num-bounds, crlf-in}
-use Rattle.decimal.specs.NumLaw.{num-law, crlf-law, head-ge}
+use Rattle.decimal.specs.ReadLaws.{crlf-in}
+use Rattle.decimal.specs.NumLaw.{crlf-law, head-ge}
 use Rattle.buffer.specs.Places.{after, first, getD-drop0}
 use Rattle.decimal.specs.declared.Num.the-variants.{Val}
 use Rattle.resp3.specs.declared.Kind.{Kind}
@@ -23,15 +23,17 @@ use Rattle.resp3.specs.declared.End.{End}
 use Rattle.resp3.specs.declared.End.the-variants.{At}
 use Rattle.resp3.specs.Kinds.{byteOf, shapeOf, kindOf}
 use Rattle.resp3.specs.KindLaws.{kind-byte}
-use Rattle.resp3.specs.Value.{Value, Values, Pairs, blobString, simpleString, simpleError, number, null, double, boolean, blobError}
-use Rattle.resp3.specs.Value.{verbatimString, bigNumber, array, map, set, attribute, push, none, more, count, countPairs, below, deepest}
-use Rattle.resp3.specs.Value.{deepestPairs, depth, plainB, oneLine, Fits64, Valid, Valids, ValidPairs, crlf, counted, framed, integer, enc}
-use Rattle.resp3.specs.Value.{encs, encPairs}
+use Rattle.resp3.specs.Value.{Spelling, underscore, blobNull, arrayNull, Value, Values, Pairs, blobString, simpleString, simpleError, number, nullAs}
+use Rattle.resp3.specs.Value.{double, boolean, blobError, verbatimString, bigNumber, array, map, set, attribute, push, none, more, count, countPairs}
+use Rattle.resp3.specs.Value.{below, deepest, deepestPairs, depth, plainB, oneLine, Fits64, Valid, Valids, ValidPairs, crlf, counted, framed, integer}
+use Rattle.resp3.specs.Value.{enc, encs, encPairs}
 use Rattle.resp3.specs.Ends.{lengthAt, crlfEnd, plain, lineEnd, blobEnd, verbatimEnd, numberEnd, booleanEnd, countOf, bodyHead, headAt}
-use Rattle.resp3.specs.Ends.{headThen, valueEnd, itemsEnd}
+use Rattle.resp3.specs.Ends.{nullByteB, nullWordB, kindHead, headThen, valueEnd, itemsEnd}
+use Rattle.resp3.specs.Reads.{num-reads, length-reads}
+use Rattle.resp3.specs.Nulls as nulls
 use Rattle.resp3.specs.Paths as paths
 use Rattle.resp3.specs.Rows.{room, roomPairs, headOf, flat, flat-enc, flat-count, flat-valid, flat-deep, pairUp, skip, pairs-flat, skip-flat}
-use Rattle.resp3.specs.Decode.{bytesAt, lineAt, integerAt, flagAt, valuesAt, pairsAt, attributeAt, bodyOf, iterOf, valueOf, valuesOf}
+use Rattle.resp3.specs.Decode.{bytesAt, lineAt, integerAt, flagAt, valuesAt, pairsAt, attributeAt, bodyOf, spellingOf, iterOf, valueOf, valuesOf}
 
 -- x ended at some e, where r follows, and y found a
 pub record Got {A : Type 0} (s r : Bytes) (a : A) (x : End) (y : A) : Type 0 where
@@ -57,29 +59,6 @@ crlf-got s p r a h =
     let c = crlf-law s p r h in
     let i = crlf-in s p c in
     record { e = p + 2; is = paths.crlf-yes s p c; rest = after s p (13 ∷ 10 ∷ []) r h; within = omega arith; found = refl }
-
--- the number n was read at p, and r follows
-pub record Reads (lim : ℕ) (s : Bytes) (p n : ℕ) (r : Bytes) : Type 0 where
-  pub e : ℕ
-  pub is : numDef lim s p ≡ Val n e
-  pub rest : drop e s ≡ r
-  pub within : e ≤ length s
-
--- what is written as a number is read as it
-pub num-reads : (lim : ℕ) (s : Bytes) (p n : ℕ) (r : Bytes) → n ≤ lim → drop p s ≡ counted n r → Reads lim s p n r
-num-reads lim s p n r l h =
-    let i = num-law lim s p n r l h in
-    record {
-      e = p + length (digits n) + 2;
-      is = i;
-      rest = after s (p + length (digits n)) (13 ∷ 10 ∷ []) r (after s p (digits n) (crlf r) h);
-      within = num-bounds lim s p n _ i .1;
-    }
-
--- a length that is no more than what follows
-pub length-reads : (s : Bytes) (p n : ℕ) (r : Bytes) → n ≤ length r → drop p s ≡ counted n r → Reads (length s) s p n r
-length-reads s p n r l h =
-    num-reads (length s) s p n r (omega (arith, simp (length-append, length-drop) at (ap length h))) h
 
 -- bytes behind their length
 blob-got : (s : Bytes) (p : ℕ) (xs r : Bytes) → drop p s ≡ framed xs r → Got s r xs (blobEnd s p) (bytesAt s p)
@@ -231,41 +210,72 @@ module _ (d : ℕ) (s : Bytes) (one : OneLaw d s) (p : ℕ) (r : Bytes) where
 
 -- ---- one value
 
--- a value's first byte says its kind; what is behind it is read by that
-at-kind : (d : ℕ) (s : Bytes) (at : ℕ) (r : Bytes) (k : Kind) (q : Bytes) (v : Value) → drop at s ≡ byteOf k ∷ q
-    → Got s r v (paths.bodyEnd (shapeOf k) s (λ n e. itemsEnd d s n e) (at + 1)) (bodyOf k s (λ n e. valuesOf d s n e) (at + 1))
+-- what is found behind the first byte of the kind k is what is found of the value
+abbrev ByKind : ℕ → Bytes → ℕ → Bytes → Kind → Value → Type 0
+ByKind d s at r k v =
+    Got s r v (paths.bodyEnd (shapeOf k) s (λ n e. itemsEnd d s n e) (at + 1)) (bodyOf k s (λ n e. valuesOf d s n e) (at + 1))
     → Got s r v (valueEnd (suc d) s at) (valueOf (suc d) s at)
-unfolding valueEnd headAt itemsEnd valueOf valuesOf
-at-kind d s at r k q v h z =
+
+-- where no null of RESP2's begins, a value's first byte says its kind, and what is behind it is read by that
+by-kind : (d : ℕ) (s : Bytes) (at : ℕ) (r : Bytes) (k : Kind) (q : Bytes) (v : Value) → nullWordB s at ≡ false → drop at s ≡ byteOf k ∷ q
+    → ByKind d s at r k v
+unfolding valueEnd headAt kindHead itemsEnd valueOf valuesOf
+by-kind d s at r k q v w h z =
     let f : kindOf (getD s at 0) ≡ k = ap kindOf (first s at (byteOf k) q h) ∙ kind-byte k in
-    rw f z
+    rw (w, f) z
+
+-- a kind whose byte begins none of them
+at-kind : (d : ℕ) (s : Bytes) (at : ℕ) (r : Bytes) (k : Kind) (q : Bytes) (v : Value) → nullByteB (byteOf k) ≡ false → drop at s ≡ byteOf k ∷ q
+    → ByKind d s at r k v
+at-kind d s at r k q v o h z = by-kind d s at r k q v (nulls.word-other s at (ap nullByteB (first s at (byteOf k) q h) ∙ o)) h z
+
+-- a kind with a length or a count
+at-count : (d : ℕ) (s : Bytes) (at : ℕ) (r : Bytes) (k : Kind) (n : ℕ) (q : Bytes) (v : Value) → drop at s ≡ byteOf k ∷ counted n q
+    → ByKind d s at r k v
+at-count d s at r k n q v h z = by-kind d s at r k (counted n q) v (nulls.word-count s at (byteOf k) n q h) h z
+
+-- a null of RESP2's is read, in its spelling
+null-got : (d : ℕ) (s : Bytes) (at b : ℕ) (r : Bytes) (q : Spelling) → nullByteB b ≡ true → spellingOf b ≡ q → drop at s ≡ b ∷ 45 ∷ 49 ∷ crlf r
+    → Got s r (nullAs q) (valueEnd (suc d) s at) (valueOf (suc d) s at)
+unfolding valueEnd itemsEnd valueOf
+null-got d s at b r q o p h =
+    let w = nulls.word-is s at b r o h in
+    let k = after s at (b ∷ 45 ∷ []) _ h in
+    let one = nulls.one-yes s (at + 2) (first s (at + 2) 49 (crlf r) k) in
+    let found : nullAs (spellingOf (getD s at 0)) ≡ nullAs q = ap (λ (x : ℕ). nullAs (spellingOf x)) (first s at b _ h) ∙ ap nullAs p in
+    also found (rw w)
+    (made (λ (x : Value). x) (ap (λ z. headThen z (λ n e. itemsEnd d s n e)) (paths.head-null s at w) ∙ paths.alone-is d s _ ∙ one)
+    (crlf-got s (at + 2 + 1) r (nullAs (spellingOf (getD s at 0))) (after s (at + 2) (49 ∷ []) (crlf r) k)))
 
 module _ (d : ℕ) (s : Bytes) (one : OneLaw d s) (at : ℕ) (r : Bytes) where
   -- one value, by the law for those below it
   value-got : (v : Value) → Valid v → below v ≤ d → drop at s ≡ enc v r → Got s r v (valueEnd (suc d) s at) (valueOf (suc d) s at)
   unfolding bodyHead bodyOf
   value-got (blobString xs) ok l h =
-      at-kind d s at r BlobString _ _ h (made blobString (paths.alone-is d s _) (blob-got s (at + 1) xs r (after s at (_ ∷ []) _ h)))
+      at-count d s at r BlobString _ _ _ h (made blobString (paths.alone-is d s _) (blob-got s (at + 1) xs r (after s at (_ ∷ []) _ h)))
   value-got (simpleString xs) ok l h =
-      at-kind d s at r SimpleString _ _ h (made simpleString (paths.alone-is d s _) (line-got s (at + 1) xs r ok (after s at (_ ∷ []) _ h)))
+      at-kind d s at r SimpleString _ _ refl h (made simpleString (paths.alone-is d s _) (line-got s (at + 1) xs r ok (after s at (_ ∷ []) _ h)))
   value-got (simpleError xs) ok l h =
-      at-kind d s at r SimpleError _ _ h (made simpleError (paths.alone-is d s _) (line-got s (at + 1) xs r ok (after s at (_ ∷ []) _ h)))
-  value-got (number z) ok l h = at-kind d s at r Number _ _ h (made number (paths.alone-is d s _) (number-got s (at + 1) z r ok (after s at (_ ∷ []) _ h)))
-  value-got null ok l h = at-kind d s at r Null _ _ h (made (λ (x : Value). x) (paths.alone-is d s _) (crlf-got s (at + 1) r null (after s at (_ ∷ []) _ h)))
-  value-got (double xs) ok l h = at-kind d s at r Double _ _ h (made double (paths.alone-is d s _) (line-got s (at + 1) xs r ok (after s at (_ ∷ []) _ h)))
-  value-got (boolean b) ok l h = at-kind d s at r Boolean _ _ h (made boolean (paths.alone-is d s _) (flag-got s (at + 1) b r (after s at (_ ∷ []) _ h)))
+      at-kind d s at r SimpleError _ _ refl h (made simpleError (paths.alone-is d s _) (line-got s (at + 1) xs r ok (after s at (_ ∷ []) _ h)))
+  value-got (number z) ok l h = at-kind d s at r Number _ _ refl h (made number (paths.alone-is d s _) (number-got s (at + 1) z r ok (after s at (_ ∷ []) _ h)))
+  value-got (nullAs underscore) ok l h =
+      at-kind d s at r Null _ _ refl h (made (λ (x : Value). x) (paths.alone-is d s _) (crlf-got s (at + 1) r (nullAs underscore) (after s at (_ ∷ []) _ h)))
+  value-got (nullAs blobNull) ok l h = null-got d s at _ r blobNull refl refl h
+  value-got (nullAs arrayNull) ok l h = null-got d s at _ r arrayNull refl refl h
+  value-got (double xs) ok l h = at-kind d s at r Double _ _ refl h (made double (paths.alone-is d s _) (line-got s (at + 1) xs r ok (after s at (_ ∷ []) _ h)))
+  value-got (boolean b) ok l h = at-kind d s at r Boolean _ _ refl h (made boolean (paths.alone-is d s _) (flag-got s (at + 1) b r (after s at (_ ∷ []) _ h)))
   value-got (blobError xs) ok l h =
-      at-kind d s at r BlobError _ _ h (made blobError (paths.alone-is d s _) (blob-got s (at + 1) xs r (after s at (_ ∷ []) _ h)))
+      at-kind d s at r BlobError _ _ refl h (made blobError (paths.alone-is d s _) (blob-got s (at + 1) xs r (after s at (_ ∷ []) _ h)))
   value-got (verbatimString f xs) ok l h =
-      at-kind d s at r VerbatimString _ _ h (made (λ (x : Value). x) (paths.alone-is d s _) (verbatim-got s (at + 1) f xs r ok (after s at (_ ∷ []) _ h)))
+      at-kind d s at r VerbatimString _ _ refl h (made (λ (x : Value). x) (paths.alone-is d s _) (verbatim-got s (at + 1) f xs r ok (after s at (_ ∷ []) _ h)))
   value-got (bigNumber xs) ok l h =
-      at-kind d s at r BigNumber _ _ h (made bigNumber (paths.alone-is d s _) (line-got s (at + 1) xs r ok (after s at (_ ∷ []) _ h)))
-  value-got (array vs) ok l h = at-kind d s at r Array _ _ h (made array refl (list-got d s one (at + 1) r vs ok l (after s at (_ ∷ []) _ h)))
-  value-got (map ps) ok l h = at-kind d s at r Map _ _ h (made map refl (map-got d s one (at + 1) r ps ok l (after s at (_ ∷ []) _ h)))
-  value-got (set vs) ok l h = at-kind d s at r Set _ _ h (made set refl (list-got d s one (at + 1) r vs ok l (after s at (_ ∷ []) _ h)))
+      at-kind d s at r BigNumber _ _ refl h (made bigNumber (paths.alone-is d s _) (line-got s (at + 1) xs r ok (after s at (_ ∷ []) _ h)))
+  value-got (array vs) ok l h = at-count d s at r Array _ _ _ h (made array refl (list-got d s one (at + 1) r vs ok l (after s at (_ ∷ []) _ h)))
+  value-got (map ps) ok l h = at-kind d s at r Map _ _ refl h (made map refl (map-got d s one (at + 1) r ps ok l (after s at (_ ∷ []) _ h)))
+  value-got (set vs) ok l h = at-kind d s at r Set _ _ refl h (made set refl (list-got d s one (at + 1) r vs ok l (after s at (_ ∷ []) _ h)))
   value-got (attribute ps v) ok l h =
-      at-kind d s at r Attribute _ _ h (attribute-got d s one (at + 1) r ps v (ok .0) (ok .1) (omega arith) (omega arith) (after s at (_ ∷ []) _ h))
-  value-got (push vs) ok l h = at-kind d s at r Push _ _ h (made push refl (list-got d s one (at + 1) r vs ok l (after s at (_ ∷ []) _ h)))
+      at-kind d s at r Attribute _ _ refl h (attribute-got d s one (at + 1) r ps v (ok .0) (ok .1) (omega arith) (omega arith) (after s at (_ ∷ []) _ h))
+  value-got (push vs) ok l h = at-kind d s at r Push _ _ refl h (made push refl (list-got d s one (at + 1) r vs ok l (after s at (_ ∷ []) _ h)))
 
 -- where a valid value of depth at most d is written, it is read
 pub read-law : (d : ℕ) (s : Bytes) (v : Value) → Valid v → depth v ≤ d → (at : ℕ) (r : Bytes) → drop at s ≡ enc v r

@@ -17,10 +17,10 @@ use Rattle.resp3.specs.declared.Kind.the-variants.{VerbatimString, BigNu
 use Rattle.resp3.specs.declared.End.{End}
 use Rattle.resp3.specs.declared.End.the-variants.{At, Bad}
 use Rattle.resp3.specs.Kinds.{kindOf}
-use Rattle.resp3.specs.Ends.{lengthAt, plain, valueEnd}
+use Rattle.resp3.specs.Ends.{lengthAt, plain, nullWordB, valueEnd}
 use Rattle.resp3.specs.Rows.{headOf, pairUp, skip}
-use Rattle.resp3.specs.Value.{Value, Values, Pairs, blobString, simpleString, simpleError, number, null, double, boolean, blobError}
-use Rattle.resp3.specs.Value.{verbatimString, bigNumber, array, map, set, attribute, push, none, more, nil}
+use Rattle.resp3.specs.Value.{Spelling, blobNull, arrayNull, Value, Values, Pairs, blobString, simpleString, simpleError, number, nullAs}
+use Rattle.resp3.specs.Value.{double, boolean, blobError, null, verbatimString, bigNumber, array, map, set, attribute, push, none, more, nil}
 
 -- go on with a number and where it ended, or take a
 abbrev pub numCase : {A : Type 0} → Num → (ℕ → ℕ → A) → A → A
@@ -87,6 +87,10 @@ bodyOf Attribute s many p = attributeAt s many p
 bodyOf Push s many p = push (valuesAt s many p)
 bodyOf Unknown s many p = null
 
+-- which of RESP2's nulls begins with b
+abbrev pub spellingOf : ℕ → Spelling
+spellingOf b = cond (eqb b 36) blobNull arrayNull
+
 -- n values, one after the other, by readers of one
 unfoldable pub iterOf : (ℕ → End) → (ℕ → Value) → ℕ → ℕ → Values
 iterOf f g zero q = none
@@ -95,7 +99,9 @@ iterOf f g (suc n) q = more (g q) (iterOf f g n (endOr (f q)))
 -- the value at `at`, where there is one that nests at most d deep
 unfoldable pub valueOf : ℕ → Bytes → ℕ → Value
 valueOf zero s at = null
-valueOf (suc d) s at = bodyOf (kindOf (getD s at 0)) s (λ n e. iterOf (λ q. valueEnd d s q) (λ q. valueOf d s q) n e) (at + 1)
+valueOf (suc d) s at =
+    cond (nullWordB s at) (nullAs (spellingOf (getD s at 0)))
+    (bodyOf (kindOf (getD s at 0)) s (λ n e. iterOf (λ q. valueEnd d s q) (λ q. valueOf d s q) n e) (at + 1))
 
 -- n values from at on
 unfoldable pub valuesOf : ℕ → Bytes → ℕ → ℕ → Values

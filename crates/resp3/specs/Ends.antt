@@ -1,13 +1,13 @@
 -- Where a value ends, read off the bytes from a place on: what the reader computes. Assumes nothing: these are definitions.
 -- Nobody has to believe them: specs/Law.antt shows that they agree with specs/Value.antt.
-use mathlib.Core.Bool.{Bool, false, cond}
+use mathlib.Core.Bool.{Bool, true, false, cond}
 use mathlib.Core.List.{[], _∷_}
 use Prim.Native.Nat.{ℕ, zero, suc, _+_}
 use lib.Dec.{leb, eqb}
 use lib.ListN.{length, getD, drop}
 use Rattle.buffer.specs.Same.{Bytes}
 use Rattle.config.specs.Limits.{maxBytes, maxDepth}
-use Rattle.decimal.specs.Read.{crlfB, numDef}
+use Rattle.decimal.specs.Read.{both, crlfB, numDef}
 use Rattle.decimal.specs.declared.Num.{Num}
 use Rattle.decimal.specs.declared.Num.the-variants.{Val, Bad as BadNum}
 use Rattle.resp3.specs.declared.Shape.{Shape}
@@ -90,9 +90,25 @@ bodyHead Pairs s p = countOf (lengthAt s p) (λ n. n + n)
 bodyHead PairsAndValue s p = countOf (lengthAt s p) (λ n. n + n + 1)
 bodyHead Nothing s p = BadHead
 
--- what stands at `at`, up to the first value inside it
+-- `$` or `*`: what RESP2's nulls begin with
+abbrev pub nullByteB : ℕ → Bool
+nullByteB b = cond (eqb b 36) true (eqb b 42)
+
+-- one of them, and a minus behind it: of all values only RESP2's nulls begin so, for a length or a count has no sign
+unfoldable pub nullWordB : Bytes → ℕ → Bool
+nullWordB s at = both (nullByteB (getD s at 0)) (eqb (getD s (at + 1) 0) 45)
+
+-- the rest of such a null: 1 and CR LF
+unfoldable pub oneEnd : Bytes → ℕ → End
+oneEnd s p = cond (eqb (getD s p 0) 49) (crlfEnd s (p + 1)) Bad
+
+-- what stands at `at`, up to the first value inside it, by the kind of its first byte
+unfoldable pub kindHead : Bytes → ℕ → Head
+kindHead s at = bodyHead (shapeOf (kindOf (getD s at 0))) s (at + 1)
+
+-- the same with RESP2's nulls
 unfoldable pub headAt : Bytes → ℕ → Head
-headAt s at = bodyHead (shapeOf (kindOf (getD s at 0))) s (at + 1)
+headAt s at = cond (nullWordB s at) (aloneOf (oneEnd s (at + 2))) (kindHead s at)
 
 -- go on with the values inside
 abbrev pub headThen : Head → (ℕ → ℕ → End) → End

@@ -1,6 +1,8 @@
 pub mod Kinds
 pub mod Value
 pub mod Ends
+pub mod Reads
+pub mod Nulls
 pub mod Paths
 pub mod KindLaws
 pub mod Rows

@@ -1,5 +1,5 @@
 -- One equation for each way through the reader's code, by which the proofs of its functions go. Assumes nothing.
-use mathlib.Core.Path.{_≡_, refl}
+use mathlib.Core.Path.{_≡_, refl, _∙_}
 use mathlib.Core.Bool.{true, false, cond, not, false≢true}
 use mathlib.Core.List.{List, [], _∷_}
 use Prim.Native.Nat.{ℕ, zero, suc, _+_, _-_, _<_, _≤_}
@@ -26,7 +26,8 @@ use Rattle.resp3.specs.declared.End.the-variants.{At, Bad}
 use Rattle.resp3.specs.Kinds.{byteOf, shapeOf, kinds, pick, kindOf}
 use Rattle.resp3.specs.Value.{plainB}
 use Rattle.resp3.specs.Ends.{numThen, lengthAt, crlfEnd, plain, lineEnd, blobEnd, verbatimEnd, numberEnd, booleanEnd, aloneOf, countOf}
-use Rattle.resp3.specs.Ends.{bodyHead, headAt, headThen, iter, valueEnd, itemsEnd, endsAt, isValue}
+use Rattle.resp3.specs.Ends.{bodyHead, nullWordB, oneEnd, kindHead, headAt, headThen, iter, valueEnd, itemsEnd, endsAt, isValue}
+use Rattle.resp3.specs.Nulls.{word-out}
 
 -- a byte that begins no kind of a list
 abbrev pub NoneOf : ℕ → List Kind → Type 0
@@ -202,15 +203,29 @@ unfolding valueEnd itemsEnd
 end-head zero s at x z h = absurd (z refl)
 end-head (suc d) s at x z h = let j : suc d - 1 ≡ d = omega arith in rw (h, j)
 
--- a beginning is what stands behind a first byte
-pub head-is : (s : Bytes) (at : ℕ) (k : Shape) → shapeOf (kindOf (getD s at 0)) ≡ k → headAt s at ≡ bodyHead k s (at + 1)
+-- a beginning is that of a null of RESP2's
+pub head-null : (s : Bytes) (at : ℕ) → nullWordB s at ≡ true → headAt s at ≡ aloneOf (oneEnd s (at + 2))
 unfolding headAt
+head-null s at h = rw h
+
+-- or what the first byte's kind says
+pub head-kind : (s : Bytes) (at : ℕ) → nullWordB s at ≡ false → headAt s at ≡ kindHead s at
+unfolding headAt
+head-kind s at h = rw h
+
+-- which is what stands behind that byte
+pub head-is : (s : Bytes) (at : ℕ) (k : Shape) → shapeOf (kindOf (getD s at 0)) ≡ k → kindHead s at ≡ bodyHead k s (at + 1)
+unfolding kindHead
 head-is s at k h = rw h
 
 -- none past the end
-pub head-out : (s : Bytes) (at : ℕ) → length s ≤ at → headAt s at ≡ BadHead
-unfolding headAt kindOf bodyHead
-head-out s at h = rw (getD-out s at h)
+pub kind-out : (s : Bytes) (at : ℕ) → length s ≤ at → kindHead s at ≡ BadHead
+unfolding kindHead kindOf bodyHead
+kind-out s at h = rw (getD-out s at h)
+
+-- and no null there
+head-out : (s : Bytes) (at : ℕ) → length s ≤ at → headAt s at ≡ BadHead
+head-out s at h = head-kind s at (word-out s at (omega arith)) ∙ kind-out s at h
 
 -- a value past the end
 end-out : (d : ℕ) (s : Bytes) (at : ℕ) → length s ≤ at → valueEnd d s at ≡ Bad

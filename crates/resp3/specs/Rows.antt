@@ -5,9 +5,9 @@ use Prim.Native.Nat.{ℕ, zero, suc, _+_, _≤_, _<_}
 use native.Mathlib.Omega.{arith}
 use lib.ListN.{length, length-append}
 use Rattle.buffer.specs.Same.{Bytes}
-use Rattle.resp3.specs.Value.{Value, Values, Pairs, blobString, simpleString, simpleError, number, null, double, boolean, blobError}
-use Rattle.resp3.specs.Value.{verbatimString, bigNumber, array, map, set, attribute, push, none, more, nil, pair, count, countPairs, deepest}
-use Rattle.resp3.specs.Value.{deepestPairs, Valids, ValidPairs, enc, encs, encPairs, encode}
+use Rattle.resp3.specs.Value.{underscore, blobNull, arrayNull, Value, Values, Pairs, blobString, simpleString, simpleError, number, nullAs, null}
+use Rattle.resp3.specs.Value.{double, boolean, blobError, verbatimString, bigNumber, array, map, set, attribute, push, none, more, nil, pair}
+use Rattle.resp3.specs.Value.{count, countPairs, deepest, deepestPairs, Valids, ValidPairs, enc, encs, encPairs, encode}
 
 -- ---- what is written does not look at what follows
 
@@ -17,7 +17,9 @@ mutual
   enc-append (simpleString xs) q r = simp append-assoc
   enc-append (simpleError xs) q r = simp append-assoc
   enc-append (number z) q r = simp append-assoc
-  enc-append null q r = refl
+  enc-append (nullAs underscore) q r = refl
+  enc-append (nullAs blobNull) q r = refl
+  enc-append (nullAs arrayNull) q r = refl
   enc-append (double xs) q r = simp append-assoc
   enc-append (boolean b) q r = refl
   enc-append (blobError xs) q r = simp append-assoc
@@ -51,7 +53,9 @@ mutual
   longer (simpleString xs) r = simp length-append (omega arith)
   longer (simpleError xs) r = simp length-append (omega arith)
   longer (number z) r = simp length-append (omega arith)
-  longer null r = omega arith
+  longer (nullAs underscore) r = omega arith
+  longer (nullAs blobNull) r = omega arith
+  longer (nullAs arrayNull) r = omega arith
   longer (double xs) r = simp length-append (omega arith)
   longer (boolean b) r = omega arith
   longer (blobError xs) r = simp length-append (omega arith)

@@ -20,7 +20,7 @@ use Rattle.decimal.specs.declared.Num.the-variants.{Val, Bad as BadNum}
 use Rattle.resp3.specs.declared.End.{End}
 use Rattle.resp3.specs.declared.End.the-variants.{At, Bad}
 use Rattle.resp3.specs.Value.{plainB, oneLine, Fits64, crlf, counted, framed, integer}
-use Rattle.resp3.specs.Ends.{numThen, lengthAt, crlfEnd, plain, lineEnd, blobEnd, verbatimEnd, numberEnd, booleanEnd}
+use Rattle.resp3.specs.Ends.{numThen, lengthAt, crlfEnd, plain, lineEnd, blobEnd, verbatimEnd, numberEnd, booleanEnd, oneEnd}
 
 -- no end is an end
 pub not-bad : (e : ℕ) → Bad ≡ At e → ⊥
@@ -198,3 +198,11 @@ flag-says s p e h = go (eqb (getD s p 0) 116) (eqb (getD s p 0) 102) refl refl h
         let m = eqb-true (getD s p 0) 102 g in
         record { b = false; is = step s p (inside s p (omega arith)) ∙ rw (m, crlf-says s (p + 1) e k .1) }
     go false false f g k = absurd (not-bad e k)
+
+-- the rest of a null of RESP2's, behind its minus, is 1 and CR LF
+pub one-says : (s : Bytes) (p e : ℕ) → oneEnd s p ≡ At e → drop p s ≡ 49 ∷ crlf (drop e s)
+unfolding oneEnd
+one-says s p e h =
+    byTest (eqb (getD s p 0) 49)
+    (λ t. let m = eqb-true (getD s p 0) 49 t in step s p (inside s p (omega arith)) ∙ rw (m, crlf-says s (p + 1) e (rw t at h) .1))
+    (λ t. absurd (not-bad e (rw t at h)))

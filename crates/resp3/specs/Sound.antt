@@ -1,27 +1,33 @@
 -- What is read was written: where the reader finds an end, the bytes of a valid value stand before it. Assumes nothing.
 use mathlib.Core.Path.{_≡_, refl, sym, ap, _∙_}
+use mathlib.Core.Bool.{true}
 use mathlib.Core.Logic.{⊎-elim}
 use mathlib.Core.List.{_∷_}
 use Prim.Native.Nat.{ℕ, zero, suc, _+_, _-_, _≤_, _<_}
 use native.Mathlib.Omega.{arith}
+use lib.Dec.{eqb}
 use lib.ListN.{length, getD, drop}
+use borrow.Author.Tests.{eqb-true}
 use Rattle.buffer.specs.Same.{Bytes}
-use Rattle.buffer.specs.Places.{step}
+use Rattle.buffer.specs.Cases.{byTest}
+use Rattle.buffer.specs.Places.{inside, step}
 use Rattle.resp3.specs.declared.Kind.{Kind}
 use Rattle.resp3.specs.declared.Kind.the-variants.{BlobString, SimpleString, SimpleError, Number, Null, Double, Boolean, BlobError}
 use Rattle.resp3.specs.declared.Kind.the-variants.{VerbatimString, BigNumber, Array, Map, Set, Attribute, Push, Unknown}
 use Rattle.decimal.specs.declared.Num.{Num}
+use Rattle.resp3.specs.declared.Head.{Head}
 use Rattle.resp3.specs.declared.End.{End}
 use Rattle.resp3.specs.declared.End.the-variants.{At, Bad}
 use Rattle.resp3.specs.Kinds.{byteOf, shapeOf, kindOf}
 use Rattle.resp3.specs.KindLaws.{kind-known}
-use Rattle.resp3.specs.Value.{Value, Values, Pairs, blobString, simpleString, simpleError, number, null, double, boolean, blobError}
-use Rattle.resp3.specs.Value.{verbatimString, bigNumber, array, map, set, attribute, push, none, more, count, below, deepest, depth, Valid}
-use Rattle.resp3.specs.Value.{Valids, counted, enc, encs, encPairs}
-use Rattle.resp3.specs.Ends.{numThen, endThen, lengthAt, aloneOf, countOf, bodyHead, headThen, iter, valueEnd, itemsEnd}
+use Rattle.resp3.specs.Value.{blobNull, arrayNull, Value, Values, Pairs, blobString, simpleString, simpleError, number, nullAs, null, double}
+use Rattle.resp3.specs.Value.{boolean, blobError, verbatimString, bigNumber, array, map, set, attribute, push, none, more, count, below, deepest}
+use Rattle.resp3.specs.Value.{depth, Valid, Valids, crlf, counted, enc, encs, encPairs}
+use Rattle.resp3.specs.Ends.{numThen, endThen, lengthAt, aloneOf, countOf, bodyHead, nullWordB, headAt, headThen, iter, valueEnd, itemsEnd}
+use Rattle.resp3.specs.Nulls.{word-says}
 use Rattle.resp3.specs.Paths as paths
 use Rattle.resp3.specs.Rows.{headOf, flat, flat-enc, valid-flat, deep-flat, pairUp, skip, paired, row-none, row-one}
-use Rattle.resp3.specs.Says.{not-bad, at-same, crlf-says, num-then, length-says, blob-says, line-says, verbatim-says, number-says, flag-says}
+use Rattle.resp3.specs.Says.{not-bad, at-same, crlf-says, num-then, length-says, blob-says, line-says, verbatim-says, number-says, flag-says, one-says}
 
 -- a value of nesting at most d was written at `at`, up to e
 pub record Written (d : ℕ) (s : Bytes) (at e : ℕ) : Type 0 where
@@ -146,6 +152,18 @@ module _ (d : ℕ) (s : Bytes) (at e : ℕ) (rec : (n q : ℕ) → itemsEnd d s 
         written Push (push (z .row)) _ b (z .ok) (z .deep) (list-is (at + 1) z) refl
     by-kind Unknown b h = absurd (not-bad e h)
 
+    -- so was a null of RESP2's
+    null-written : nullWordB s at ≡ true → drop (at + 2) s ≡ 49 ∷ crlf (drop e s) → Written (suc d) s at e
+    null-written w h =
+        let t = word-says s at w in
+        let m = t .1 in
+        let two : at + 1 + 1 ≡ at + 2 = omega arith in
+        let q : drop (at + 1) s ≡ 45 ∷ 49 ∷ crlf (drop e s) =
+        step s (at + 1) (inside s (at + 1) (omega arith)) ∙ rw (m, two) (ap (λ (z : Bytes). 45 ∷ z) h) in
+        byTest (eqb (getD s at 0) 36)
+        (λ b. written BlobString (nullAs blobNull) _ (eqb-true (getD s at 0) 36 b) tt (omega arith) q refl)
+        (λ b. written Array (nullAs arrayNull) _ (eqb-true (getD s at 0) 42 (rw b at (t .0))) tt (omega arith) q refl)
+
 -- no kind has no end
 nothing : (s : Bytes) (d e p : ℕ) → paths.bodyEnd (shapeOf Unknown) s (λ n q. itemsEnd d s n q) p ≡ At e → Bad ≡ At e
 unfolding bodyHead
@@ -156,15 +174,21 @@ pub end-sound : (d : ℕ) (s : Bytes) (at e : ℕ) → valueEnd d s at ≡ At e 
 end-sound zero s at e h = absurd (not-bad e (sym (paths.end-zero 0 s at refl) ∙ h))
 end-sound (suc d) s at e h = go (λ n q k. items-sound d s (λ a b c. end-sound d s a b c) n q e k)
   where
-    body : paths.bodyEnd (shapeOf (kindOf (getD s at 0))) s (λ n q. itemsEnd d s n q) (at + 1) ≡ At e
-    body = let j : suc d - 1 ≡ d = omega arith in rw j at (sym (paths.end-head (suc d) s at _ (λ z. omega arith) (paths.head-is s at _ refl)) ∙ h)
+    i : at < length s
+    i = paths.end-in (suc d) s at e h
 
-    unknown : kindOf (getD s at 0) ≡ Unknown → ⊥
-    unknown u = not-bad e (nothing s d e (at + 1) (rw u at body))
+    head : (x : Head) → headAt s at ≡ x → headThen x (λ n q. itemsEnd d s n q) ≡ At e
+    head x k = let j : suc d - 1 ≡ d = omega arith in rw j at (sym (paths.end-head (suc d) s at x (λ z. omega arith) k) ∙ h)
+
+    unknown : paths.bodyEnd (shapeOf (kindOf (getD s at 0))) s (λ n q. itemsEnd d s n q) (at + 1) ≡ At e → kindOf (getD s at 0) ≡ Unknown → ⊥
+    unknown body u = not-bad e (nothing s d e (at + 1) (rw u at body))
+
+    kinds : ((n q : ℕ) → itemsEnd d s n q ≡ At e → AllWritten d s n q e)
+        → paths.bodyEnd (shapeOf (kindOf (getD s at 0))) s (λ n q. itemsEnd d s n q) (at + 1) ≡ At e → Written (suc d) s at e
+    kinds rec body = ⊎-elim (λ b. by-kind d s at e rec i (kindOf (getD s at 0)) b body) (λ u. absurd (unknown body u)) (kind-known (getD s at 0))
 
     go : ((n q : ℕ) → itemsEnd d s n q ≡ At e → AllWritten d s n q e) → Written (suc d) s at e
     go rec =
-        ⊎-elim
-        (λ b. by-kind d s at e rec (paths.end-in (suc d) s at e h) (kindOf (getD s at 0)) b body)
-        (λ u. absurd (unknown u))
-        (kind-known (getD s at 0))
+        byTest (nullWordB s at)
+        (λ w. null-written d s at e rec i w (one-says s (at + 2) e (single d s at e rec i (head _ (paths.head-null s at w)))))
+        (λ w. kinds rec (head _ (paths.head-kind s at w ∙ paths.head-is s at _ refl)))

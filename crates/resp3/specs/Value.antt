@@ -15,6 +15,12 @@ use Rattle.resp3.specs.declared.Kind.the-variants.{BlobString, SimpleStr
 use Rattle.resp3.specs.declared.Kind.the-variants.{VerbatimString, BigNumber, Array, Map, Set, Attribute, Push}
 use Rattle.resp3.specs.Kinds.{byteOf}
 
+-- how a null is spelled: in RESP3's way, or in one of RESP2's two, which an old server sends (request 1)
+pub data Spelling : Type 0 where
+  underscore : Spelling  -- <_>
+  blobNull : Spelling  -- <$-1>
+  arrayNull : Spelling  -- <*-1>
+
 -- The 15 kinds, by RESP3's names, each with what it holds; beside it RESP3's form, with lines that end in CR LF shown as <..>.
 -- Doubles and big numbers are kept as text, since nothing reads the number in them (rule V3).
 mutual
@@ -23,7 +29,7 @@ mutual
     simpleString : Bytes → Value  -- <+text>
     simpleError : Bytes → Value  -- <-text>
     number : ℤ → Value  -- <:integer>
-    null : Value  -- <_>
+    nullAs : Spelling → Value  -- <_>, <$-1> or <*-1>
     double : Bytes → Value  -- <,text>
     boolean : Bool → Value  -- <#t> or <#f>
     blobError : Bytes → Value  -- <!length> <bytes>
@@ -45,6 +51,10 @@ mutual
     nil : Pairs
     pair : Value → Value → Pairs → Pairs
 
+-- RESP3's own null, `_`
+abbrev pub null : Value
+null = nullAs underscore
+
 -- how many values
 abbrev pub count : Values → ℕ
 count none = 0
@@ -62,7 +72,7 @@ abbrev mutual
   below (simpleString xs) = 0
   below (simpleError xs) = 0
   below (number z) = 0
-  below null = 0
+  below (nullAs q) = 0
   below (double xs) = 0
   below (boolean b) = 0
   below (blobError xs) = 0
@@ -110,7 +120,7 @@ abbrev mutual
   Valid (simpleString xs) = oneLine xs ≡ true
   Valid (simpleError xs) = oneLine xs ≡ true
   Valid (number z) = Fits64 z
-  Valid null = Unit
+  Valid (nullAs q) = Unit
   Valid (double xs) = oneLine xs ≡ true
   Valid (boolean b) = Unit
   Valid (blobError xs) = Unit
@@ -149,6 +159,12 @@ abbrev pub integer : ℤ → Bytes
 integer (pos n) = digits n
 integer (negsuc n) = code "-" ∷ digits (suc n)
 
+-- a null in its spelling, with r after it
+abbrev pub spelled : Spelling → Bytes → Bytes
+spelled underscore r = byteOf Null ∷ crlf r
+spelled blobNull r = byteOf BlobString ∷ code "-" ∷ code "1" ∷ crlf r
+spelled arrayNull r = byteOf Array ∷ code "-" ∷ code "1" ∷ crlf r
+
 -- A value as it is written, with r after it.
 abbrev mutual
   pub enc : Value → Bytes → Bytes
@@ -156,7 +172,7 @@ abbrev mutual
   enc (simpleString xs) r = byteOf SimpleString ∷ (xs ++ crlf r)
   enc (simpleError xs) r = byteOf SimpleError ∷ (xs ++ crlf r)
   enc (number z) r = byteOf Number ∷ (integer z ++ crlf r)
-  enc null r = byteOf Null ∷ crlf r
+  enc (nullAs q) r = spelled q r
   enc (double xs) r = byteOf Double ∷ (xs ++ crlf r)
   enc (boolean b) r = byteOf Boolean ∷ cond b (code "t") (code "f") ∷ crlf r
   enc (blobError xs) r = byteOf BlobError ∷ framed xs r

@@ -9,7 +9,8 @@ ghost use Rattle.buffer.specs.Same.{same};
 ghost use Rattle.buffer.specs.Part.{part, put};
 ghost use Rattle.resp3.specs.Kinds.{kindOf, shapeOf};
 ghost use Rattle.resp3.specs.Value.{plainB, nullBytes};
-ghost use Rattle.resp3.specs.Ends.{lengthAt, crlfEnd, lineEnd, blobEnd, verbatimEnd, numberEnd, booleanEnd, aloneOf, headAt, valueEnd, isValue};
+ghost use Rattle.resp3.specs.Ends.{lengthAt, crlfEnd, lineEnd, blobEnd, verbatimEnd, numberEnd, booleanEnd, aloneOf, nullWordB, oneEnd, kindHead};
+ghost use Rattle.resp3.specs.Ends.{headAt, valueEnd, isValue};
 
 // Where something ends: the place after its last byte. Bad where it does not stand there whole.
 pub enum End {
@@ -225,9 +226,41 @@ fn alone(x: End) -> Head
     }
 }
 
-// What stands at `at`, up to the first value inside it.
-fn head_at(s: &[u8], at: usize) -> Head
-    ensures { λ r. ⌜ r ≡ headAt (now (s .entry)) at ⌝ }
+// Whether `$` or `*` stands at `at` with a minus behind it: so begin RESP2's nulls, and no other value. Most values have no minus there.
+pub fn null_word_at(s: &[u8], at: usize) -> bool
+    ensures { λ r. ⌜ r ≡ nullWordB (now (s .entry)) at ⌝ }
+{
+    if s.len() < 2 {
+        return false;
+    }
+    if at > s.len() - 2 {
+        return false;
+    }
+    if s[at + 1] != b'-' {
+        return false;
+    }
+    if s[at] == b'$' {
+        return true;
+    }
+    s[at] == b'*'
+}
+
+// The rest of such a null: 1, CR LF.
+fn one_end(s: &[u8], at: usize) -> End
+    ensures { λ r. ⌜ r ≡ oneEnd (now (s .entry)) at ⌝ }
+{
+    if at >= s.len() {
+        return End::Bad;
+    }
+    if s[at] != b'1' {
+        return End::Bad;
+    }
+    crlf_end(s, at + 1)
+}
+
+// What stands at `at`, up to the first value inside it, by the kind of its first byte.
+fn kind_head(s: &[u8], at: usize) -> Head
+    ensures { λ r. ⌜ r ≡ kindHead (now (s .entry)) at ⌝ }
 {
     if at >= s.len() {
         return Head::Bad;
@@ -261,6 +294,16 @@ fn head_at(s: &[u8], at: usize) -> Head
         }
         Shape::Nothing => Head::Bad,
     }
+}
+
+// The same with RESP2's nulls, which an old server sends.
+fn head_at(s: &[u8], at: usize) -> Head
+    ensures { λ r. ⌜ r ≡ headAt (now (s .entry)) at ⌝ }
+{
+    if null_word_at(s, at) {
+        return alone(one_end(s, at + 2));
+    }
+    kind_head(s, at)
 }
 
 // Where the value at `at` ends, if one stands there that nests at most depth deep.

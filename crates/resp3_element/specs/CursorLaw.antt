@@ -10,19 +10,22 @@ use lib.ListN.{length, getD, take, drop, length-append, length-drop}
 use lib.Seq.{take-at}
 use borrow.Author.Tests.{ne-eqb, eq-eqb}
 use Rattle.buffer.specs.Same.{Bytes}
+use Rattle.buffer.specs.Cases.{byTest}
 use Rattle.config.specs.Limits.{maxDepth}
 use Rattle.resp3.specs.declared.Kind.the-variants.{Array, Push}
 use Rattle.resp3.specs.Kinds.{byteOf}
-use Rattle.resp3.specs.Value.{Value, Values, blobString, simpleString, simpleError, number, null, double, boolean, blobError, verbatimString}
+use Rattle.resp3.specs.Value.{Value, Values, blobString, simpleString, simpleError, number, nullAs, double, boolean, blobError, verbatimString}
 use Rattle.resp3.specs.Value.{bigNumber, array, map, set, attribute, push, none, more, count, deepest, Valids, counted, encs, encode, Means}
 use Rattle.resp3.specs.Ends.{lengthAt}
+use Rattle.resp3.specs.Nulls.{word-length}
 use Rattle.resp3.specs.Rows.{enc-is, longer, room}
-use Rattle.resp3.specs.Complete.{read-law, length-reads}
+use Rattle.resp3.specs.Reads.{length-reads}
+use Rattle.resp3.specs.Complete.{read-law}
 use Rattle.resp3_element.specs.declared.Cursor.{Cursor}
 use Rattle.resp3_element.specs.declared.Elements.the-variants.{No as NoList}
 use Rattle.resp3_element.specs.Meaning.{valueKind, arrayOf, pushOf, Stands, Holds}
 use Rattle.resp3_element.specs.Places.{standAt, listAt}
-use Rattle.resp3_element.specs.Law.{bytes-are, head-law}
+use Rattle.resp3_element.specs.Law.{bytes-are, by-begin}
 
 -- before values that stand at `at` and end with the slice
 pub stand-law : (s : Bytes) (at n : ℕ) (vs : Values) → n ≡ count vs → at ≤ length s → drop at s ≡ encs vs [] → Valids vs → deepest vs ≤ maxDepth
@@ -59,7 +62,8 @@ next-law s c v vs w = stand-law s (c .end) (c .left - 1) vs (omega (arith, w .le
 -- a value that begins with another byte
 list-not : (b : ℕ) (s : Bytes) (v : Value) → Means s v → eqb (byteOf (valueKind v)) b ≡ false → listAt b s ≡ NoList
 unfolding listAt
-list-not b s v m e = rw (head-law s v m, e)
+list-not b s v m e =
+    by-begin s v m (λ w f. rw (f, e)) (λ w n. rw (word-length s 0 w) (byTest (eqb (getD s 0 0) b) (λ t. rw t) (λ t. rw t)))
 
 -- a count and as many values, behind b
 list-is : (b : ℕ) (s : Bytes) (vs : Values) → Valids vs → deepest vs ≤ maxDepth → s ≡ b ∷ counted (count vs) (encs vs []) → Holds s (listAt b s) (some vs)
@@ -75,7 +79,7 @@ array-law s (blobString xs) m = rw (list-not _ s _ m refl) tt
 array-law s (simpleString xs) m = rw (list-not _ s _ m refl) tt
 array-law s (simpleError xs) m = rw (list-not _ s _ m refl) tt
 array-law s (number z) m = rw (list-not _ s _ m refl) tt
-array-law s null m = rw (list-not _ s _ m refl) tt
+array-law s (nullAs q) m = rw (list-not _ s _ m refl) tt
 array-law s (double xs) m = rw (list-not _ s _ m refl) tt
 array-law s (boolean b) m = rw (list-not _ s _ m refl) tt
 array-law s (blobError xs) m = rw (list-not _ s _ m refl) tt
@@ -93,7 +97,7 @@ push-law s (blobString xs) m = rw (list-not _ s _ m refl) tt
 push-law s (simpleString xs) m = rw (list-not _ s _ m refl) tt
 push-law s (simpleError xs) m = rw (list-not _ s _ m refl) tt
 push-law s (number z) m = rw (list-not _ s _ m refl) tt
-push-law s null m = rw (list-not _ s _ m refl) tt
+push-law s (nullAs q) m = rw (list-not _ s _ m refl) tt
 push-law s (double xs) m = rw (list-not _ s _ m refl) tt
 push-law s (boolean b) m = rw (list-not _ s _ m refl) tt
 push-law s (blobError xs) m = rw (list-not _ s _ m refl) tt

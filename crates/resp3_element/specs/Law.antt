@@ -1,7 +1,7 @@
 -- What is read of a value's bytes is what the value is: kind, integer, blob. Assumes nothing.
-use mathlib.Core.Path.{_≡_, refl, ap, _∙_}
-use mathlib.Core.Bool.{true, false}
-use mathlib.Core.List.{[], _++_}
+use mathlib.Core.Path.{_≡_, refl, sym, ap, _∙_}
+use mathlib.Core.Bool.{true, false, false≢true}
+use mathlib.Core.List.{[], _∷_, _++_}
 use Prim.Native.Nat.{ℕ, suc, _-_, _≤_}
 use native.Mathlib.Omega.{arith}
 use native.Mathlib.Nat.{add-sub-cancel-left}
@@ -9,7 +9,7 @@ use lib.Dec.{eqb, leb}
 use lib.ListN.{length, getD, drop, length-append, length-drop}
 use lib.IntN.{ℤ, pos, negsuc}
 use lib.Seq.{take-at}
-use borrow.Author.Tests.{eq-eqb, ne-eqb, le-leb, leb-true}
+use borrow.Author.Tests.{eqb-true, eq-eqb, ne-eqb, le-leb, leb-true}
 use Rattle.buffer.specs.Same.{Bytes}
 use Rattle.buffer.specs.Cases.{byTest}
 use Rattle.decimal.specs.Digits.{digits}
@@ -18,63 +18,117 @@ use Rattle.decimal.specs.declared.Num.{Num}
 use Rattle.decimal.specs.declared.Num.the-variants.{Val, Bad as BadNum}
 use Rattle.resp3.specs.Kinds.{byteOf, kindOf}
 use Rattle.resp3.specs.KindLaws.{kind-byte}
-use Rattle.resp3.specs.Value.{Value, blobString, simpleString, simpleError, number, null, double, boolean, blobError, verbatimString, bigNumber}
-use Rattle.resp3.specs.Value.{array, map, set, attribute, push, Fits64, crlf, enc, encode, Means}
+use Rattle.resp3.specs.Value.{underscore, blobNull, arrayNull, Value, blobString, simpleString, simpleError, number, nullAs, double, boolean, blobError}
+use Rattle.resp3.specs.Value.{verbatimString, bigNumber, array, map, set, attribute, push, Fits64, crlf, counted, enc, encode, Means}
 use Rattle.resp3.specs.declared.Kind.{Kind}
-use Rattle.resp3.specs.declared.Kind.the-variants.{BlobString, SimpleError, BlobError, Number}
-use Rattle.resp3.specs.Ends.{lengthAt}
+use Rattle.resp3.specs.declared.Kind.the-variants.{BlobString, SimpleError, BlobError, Number, Null}
+use Rattle.resp3.specs.Ends.{lengthAt, nullByteB, nullWordB}
 use Rattle.resp3.specs.Decode.{numCase}
+use Rattle.resp3.specs.Nulls.{word-other, word-says, word-length, word-count, word-is}
 use Rattle.resp3.specs.Paths.{length-bounds}
-use Rattle.resp3.specs.Complete.{num-reads, length-reads}
+use Rattle.resp3.specs.Reads.{num-reads, length-reads}
 use Rattle.resp3_element.specs.declared.Range.{Range}
 use Rattle.resp3_element.specs.declared.Integer.the-variants.{Is, No as NoInteger}
-use Rattle.resp3_element.specs.Meaning.{valueKind, ofKind, isError, integerOf, blobOf}
-use Rattle.resp3_element.specs.Places.{errorAt, integerAt, noRange, rangeOf, rangeAt, inRange}
+use Rattle.resp3_element.specs.Meaning.{valueKind, ofKind, isError, isNull, integerOf, blobOf}
+use Rattle.resp3_element.specs.Places.{kindAt, nullAt, errorAt, integerAt, noRange, rangeOf, rangeAt, inRange}
 
 -- a value's bytes are those of its encoding
 pub bytes-are : (s : Bytes) (v : Value) → Means s v → s ≡ enc v []
 unfolding encode
 bytes-are s v m = m .is
 
--- its first byte
-head-is : (s : Bytes) (v : Value) → s ≡ enc v [] → getD s 0 0 ≡ byteOf (valueKind v)
-head-is s (blobString xs) h = ap (λ (l : Bytes). getD l 0 0) h
-head-is s (simpleString xs) h = ap (λ (l : Bytes). getD l 0 0) h
-head-is s (simpleError xs) h = ap (λ (l : Bytes). getD l 0 0) h
-head-is s (number z) h = ap (λ (l : Bytes). getD l 0 0) h
-head-is s null h = ap (λ (l : Bytes). getD l 0 0) h
-head-is s (double xs) h = ap (λ (l : Bytes). getD l 0 0) h
-head-is s (boolean b) h = ap (λ (l : Bytes). getD l 0 0) h
-head-is s (blobError xs) h = ap (λ (l : Bytes). getD l 0 0) h
-head-is s (verbatimString f xs) h = ap (λ (l : Bytes). getD l 0 0) h
-head-is s (bigNumber xs) h = ap (λ (l : Bytes). getD l 0 0) h
-head-is s (array vs) h = ap (λ (l : Bytes). getD l 0 0) h
-head-is s (map ps) h = ap (λ (l : Bytes). getD l 0 0) h
-head-is s (set vs) h = ap (λ (l : Bytes). getD l 0 0) h
-head-is s (attribute ps v) h = ap (λ (l : Bytes). getD l 0 0) h
-head-is s (push vs) h = ap (λ (l : Bytes). getD l 0 0) h
+-- a value begins with its kind's byte, and not as a null of RESP2's; or it is such a null
+data Begins (s : Bytes) (v : Value) : Type 0 where
+  own : nullWordB s 0 ≡ false → getD s 0 0 ≡ byteOf (valueKind v) → Begins s v
+  old : nullWordB s 0 ≡ true → valueKind v ≡ Null → Begins s v
 
--- a value's first byte is its kind's
-pub head-law : (s : Bytes) (v : Value) → Means s v → getD s 0 0 ≡ byteOf (valueKind v)
-head-law s v m = head-is s v (bytes-are s v m)
+-- a kind whose byte begins none of RESP2's nulls
+by-byte : (s : Bytes) (v : Value) (q : Bytes) → nullByteB (byteOf (valueKind v)) ≡ false → s ≡ byteOf (valueKind v) ∷ q → Begins s v
+by-byte s v q n h =
+    let f : getD s 0 0 ≡ byteOf (valueKind v) = ap (λ (l : Bytes). getD l 0 0) h in
+    own (word-other s 0 (ap nullByteB f ∙ n)) f
 
--- and says which kind
-pub kind-law : (s : Bytes) (v : Value) → Means s v → kindOf (getD s 0 0) ≡ valueKind v
-kind-law s v m = ap kindOf (head-law s v m) ∙ kind-byte (valueKind v)
+-- a kind with a length or a count, which has no sign
+by-count : (s : Bytes) (v : Value) (n : ℕ) (q : Bytes) → s ≡ byteOf (valueKind v) ∷ counted n q → Begins s v
+by-count s v n q h = own (word-count s 0 (byteOf (valueKind v)) n q h) (ap (λ (l : Bytes). getD l 0 0) h)
 
--- ---- errors, `_`
+-- so begins every value
+begins : (s : Bytes) (v : Value) → s ≡ enc v [] → Begins s v
+begins s (blobString xs) h = by-count s (blobString xs) _ _ h
+begins s (simpleString xs) h = by-byte s (simpleString xs) _ refl h
+begins s (simpleError xs) h = by-byte s (simpleError xs) _ refl h
+begins s (number z) h = by-byte s (number z) _ refl h
+begins s (nullAs underscore) h = by-byte s (nullAs underscore) _ refl h
+begins s (nullAs blobNull) h = old (word-is s 0 _ [] refl h) refl
+begins s (nullAs arrayNull) h = old (word-is s 0 _ [] refl h) refl
+begins s (double xs) h = by-byte s (double xs) _ refl h
+begins s (boolean b) h = by-byte s (boolean b) _ refl h
+begins s (blobError xs) h = by-byte s (blobError xs) _ refl h
+begins s (verbatimString f xs) h = by-byte s (verbatimString f xs) _ refl h
+begins s (bigNumber xs) h = by-byte s (bigNumber xs) _ refl h
+begins s (array vs) h = by-count s (array vs) _ _ h
+begins s (map ps) h = by-byte s (map ps) _ refl h
+begins s (set vs) h = by-byte s (set vs) _ refl h
+begins s (attribute ps v) h = by-byte s (attribute ps v) _ refl h
+begins s (push vs) h = by-byte s (push vs) _ refl h
 
--- a test of the first byte is one of the kind
-pub first-is : (s : Bytes) (v : Value) (k : Kind) (b : ℕ) → Means s v → b ≡ getD s 0 0 → eqb b (byteOf k) ≡ ofKind k v
-first-is s v k b m h = ap (λ (x : ℕ). eqb x (byteOf k)) (h ∙ head-law s v m)
+-- by how the bytes of a value begin
+pub by-begin : {X : Type 0} (s : Bytes) (v : Value) → Means s v
+    → (nullWordB s 0 ≡ false → getD s 0 0 ≡ byteOf (valueKind v) → X) → (nullWordB s 0 ≡ true → valueKind v ≡ Null → X) → X
+by-begin {X = X} s v m f g = go (begins s v (bytes-are s v m))
+  where
+    go : Begins s v → X
+    go (own w b) = f w b
+    go (old w n) = g w n
+
+-- the ways through the code: a null of RESP2's, or not; `_`, or not
+pub kind-old : (s : Bytes) → nullWordB s 0 ≡ true → kindAt s ≡ Null
+kind-old s w = rw w
+
+pub kind-own : (s : Bytes) → nullWordB s 0 ≡ false → kindAt s ≡ kindOf (getD s 0 0)
+kind-own s w = rw w
+
+pub null-yes : (s : Bytes) → getD s 0 0 ≡ 95 → nullAt s ≡ true
+null-yes s e = rw e
+
+pub null-else : (s : Bytes) → ((getD s 0 0 ≡ 95) → ⊥) → nullAt s ≡ nullWordB s 0
+null-else s e = rw (ne-eqb (getD s 0 0) 95 e)
+
+-- the kind is read off the beginning
+pub kind-law : (s : Bytes) (v : Value) → Means s v → kindAt s ≡ valueKind v
+kind-law s v m = by-begin s v m (λ w b. rw w (ap kindOf b ∙ kind-byte (valueKind v))) (λ w n. rw w (sym n))
+
+-- so is whether it is a null
+pub null-law : (s : Bytes) (v : Value) → Means s v → nullAt s ≡ isNull v
+null-law s v m =
+    by-begin s v m
+    (λ w b. rw (w, b) (byTest (ofKind Null v) (λ t. rw t) (λ t. rw t)))
+    (λ w n. rw (w, n) (byTest (eqb (getD s 0 0) 95) (λ t. rw t) (λ t. rw t)))
+
+-- ---- errors
+
+-- a byte that begins none of RESP2's nulls is not their first
+not-word : (s : Bytes) (b : ℕ) → nullByteB b ≡ false → nullWordB s 0 ≡ true → eqb (getD s 0 0) b ≡ false
+not-word s b n w =
+    byTest (eqb (getD s 0 0) b)
+    (λ t. absurd (false≢true (sym (ap nullByteB (eqb-true (getD s 0 0) b t) ∙ n) ∙ word-says s 0 w .0)))
+    (λ t. t)
+
+-- for other kinds than these nulls', a test of the first byte is one of the kind
+pub first-is : (s : Bytes) (v : Value) (k : Kind) (b : ℕ) → nullByteB (byteOf k) ≡ false → eqb (byteOf Null) (byteOf k) ≡ false → Means s v
+    → b ≡ getD s 0 0
+    → eqb b (byteOf k) ≡ ofKind k v
+first-is s v k b n o m h =
+    ap (λ (x : ℕ). eqb x (byteOf k)) h
+    ∙ by-begin s v m (λ w e. ap (λ (x : ℕ). eqb x (byteOf k)) e) (λ w e. not-word s (byteOf k) n w ∙ sym (ap (λ (j : Kind). eqb (byteOf j) (byteOf k)) e ∙ o))
 
 -- a simple error
 pub error-yes : (s : Bytes) (v : Value) (b : ℕ) → Means s v → b ≡ getD s 0 0 → b ≡ byteOf SimpleError → isError v ≡ true
-error-yes s v b m h e = rw (← first-is s v SimpleError b m h, eq-eqb b (byteOf SimpleError) e)
+error-yes s v b m h e = rw (← first-is s v SimpleError b refl refl m h, eq-eqb b (byteOf SimpleError) e)
 
 -- a blob error, or none
 pub error-else : (s : Bytes) (v : Value) (b : ℕ) → Means s v → b ≡ getD s 0 0 → ((b ≡ byteOf SimpleError) → ⊥) → eqb b (byteOf BlobError) ≡ isError v
-error-else s v b m h e = rw (← first-is s v SimpleError b m h, ne-eqb b (byteOf SimpleError) e) (first-is s v BlobError b m h)
+error-else s v b m h e = rw (← first-is s v SimpleError b refl refl m h, ne-eqb b (byteOf SimpleError) e) (first-is s v BlobError b refl refl m h)
 
 -- the same of any bytes
 pub error-at-yes : (s : Bytes) (b : ℕ) → b ≡ getD s 0 0 → b ≡ byteOf SimpleError → true ≡ errorAt s
@@ -88,7 +142,7 @@ error-at-else s b h e = rw (← h, ne-eqb b 45 e)
 -- a value of another kind
 integer-not : (s : Bytes) (v : Value) → Means s v → ofKind Number v ≡ false → integerAt s ≡ NoInteger
 unfolding integerAt
-integer-not s v m e = rw (head-law s v m, e)
+integer-not s v m e = rw (first-is s v Number _ refl refl m refl, e)
 
 -- an integer is found, with its sign
 integer-is : (s : Bytes) (z : ℤ) → Fits64 z → s ≡ enc (number z) [] → integerAt s ≡ Is z
@@ -112,7 +166,7 @@ integer-law s (blobString xs) m = integer-not s _ m refl
 integer-law s (simpleString xs) m = integer-not s _ m refl
 integer-law s (simpleError xs) m = integer-not s _ m refl
 integer-law s (number z) m = integer-is s z (m .ok) (bytes-are s (number z) m)
-integer-law s null m = integer-not s _ m refl
+integer-law s (nullAs q) m = integer-not s _ m refl
 integer-law s (double xs) m = integer-not s _ m refl
 integer-law s (boolean b) m = integer-not s _ m refl
 integer-law s (blobError xs) m = integer-not s _ m refl
@@ -159,7 +213,7 @@ range-in s p e = rw e (range-there s)
 -- a value of another kind has none
 blob-not : (s : Bytes) (v : Value) → Means s v → ofKind BlobString v ≡ false → inRange s (rangeAt s) ≡ []
 unfolding rangeAt
-blob-not s v m e = rw (head-law s v m, e)
+blob-not s v m e = by-begin s v m (λ w b. rw (b, e)) (λ w n. rw (word-length s 0 w) (byTest (eqb (getD s 0 0) 36) (λ t. rw t) (λ t. rw t)))
 
 -- a blob string's are found
 blob-is : (s xs : Bytes) → s ≡ enc (blobString xs) [] → inRange s (rangeAt s) ≡ xs
@@ -177,7 +231,7 @@ blob-there s (blobString xs) m = blob-is s xs (bytes-are s (blobString xs) m)
 blob-there s (simpleString xs) m = blob-not s _ m refl
 blob-there s (simpleError xs) m = blob-not s _ m refl
 blob-there s (number z) m = blob-not s _ m refl
-blob-there s null m = blob-not s _ m refl
+blob-there s (nullAs q) m = blob-not s _ m refl
 blob-there s (double xs) m = blob-not s _ m refl
 blob-there s (boolean b) m = blob-not s _ m refl
 blob-there s (blobError xs) m = blob-not s _ m refl

@@ -1,4 +1,4 @@
--- What is asked of a RESP3 value: its kind, whether it is an error or `_`, its integer, its bytes, its elements; and where a
+-- What is asked of a RESP3 value: its kind, whether it is an error or a null, its integer, its bytes, its elements; and where a
 -- cursor stands in a list. Assumes nothing: these are the definitions that a reader has to believe.
 -- A value under `|` is of the kind `attribute`, and so none of what is asked for.
 use mathlib.Core.Path.{_≡_}
@@ -15,7 +15,7 @@ use Rattle.resp3.specs.declared.Kind.{Kind}
 use Rattle.resp3.specs.declared.Kind.the-variants.{BlobString, SimpleString, SimpleError, Number, Null, Double, Boolean, BlobError, VerbatimString}
 use Rattle.resp3.specs.declared.Kind.the-variants.{BigNumber, Array, Map, Set, Attribute, Push}
 use Rattle.resp3.specs.Kinds.{byteOf}
-use Rattle.resp3.specs.Value.{Value, Values, blobString, simpleString, simpleError, number, null, double, boolean, blobError, verbatimString}
+use Rattle.resp3.specs.Value.{Value, Values, blobString, simpleString, simpleError, number, nullAs, double, boolean, blobError, verbatimString}
 use Rattle.resp3.specs.Value.{bigNumber, array, map, set, attribute, push, none, count, deepest, Valids, encs}
 use Rattle.resp3.specs.Rows.{tailOf}
 use Rattle.resp3_element.specs.declared.Cursor.{Cursor}
@@ -24,13 +24,13 @@ use Rattle.resp3_element.specs.declared.Elements.the-variants.{Of, No as
 use Rattle.resp3_element.specs.declared.Integer.{Integer}
 use Rattle.resp3_element.specs.declared.Integer.the-variants.{Is, No as NoInteger}
 
--- a value's kind
+-- a value's kind; a null is of the kind Null in whatever spelling
 abbrev pub valueKind : Value → Kind
 valueKind (blobString xs) = BlobString
 valueKind (simpleString xs) = SimpleString
 valueKind (simpleError xs) = SimpleError
 valueKind (number z) = Number
-valueKind null = Null
+valueKind (nullAs q) = Null
 valueKind (double xs) = Double
 valueKind (boolean b) = Boolean
 valueKind (blobError xs) = BlobError
@@ -50,7 +50,7 @@ ofKind k v = eqb (byteOf (valueKind v)) (byteOf k)
 abbrev pub isError : Value → Bool
 isError v = cond (ofKind SimpleError v) true (ofKind BlobError v)
 
--- `_`
+-- a null: `_`, `$-1` or `*-1`
 abbrev pub isNull : Value → Bool
 isNull v = ofKind Null v
 
@@ -60,7 +60,7 @@ integerOf (blobString xs) = NoInteger
 integerOf (simpleString xs) = NoInteger
 integerOf (simpleError xs) = NoInteger
 integerOf (number z) = Is z
-integerOf null = NoInteger
+integerOf (nullAs q) = NoInteger
 integerOf (double xs) = NoInteger
 integerOf (boolean b) = NoInteger
 integerOf (blobError xs) = NoInteger
@@ -72,13 +72,13 @@ integerOf (set vs) = NoInteger
 integerOf (attribute ps v) = NoInteger
 integerOf (push vs) = NoInteger
 
--- the bytes of `$`
+-- the bytes of `$`; a null has none
 abbrev pub blobOf : Value → Bytes
 blobOf (blobString xs) = xs
 blobOf (simpleString xs) = []
 blobOf (simpleError xs) = []
 blobOf (number z) = []
-blobOf null = []
+blobOf (nullAs q) = []
 blobOf (double xs) = []
 blobOf (boolean b) = []
 blobOf (blobError xs) = []
@@ -90,13 +90,13 @@ blobOf (set vs) = []
 blobOf (attribute ps v) = []
 blobOf (push vs) = []
 
--- the elements of `*`
+-- the elements of `*`; a null has none
 abbrev pub arrayOf : Value → Option Values
 arrayOf (blobString xs) = option.none
 arrayOf (simpleString xs) = option.none
 arrayOf (simpleError xs) = option.none
 arrayOf (number z) = option.none
-arrayOf null = option.none
+arrayOf (nullAs q) = option.none
 arrayOf (double xs) = option.none
 arrayOf (boolean b) = option.none
 arrayOf (blobError xs) = option.none
@@ -114,7 +114,7 @@ pushOf (blobString xs) = option.none
 pushOf (simpleString xs) = option.none
 pushOf (simpleError xs) = option.none
 pushOf (number z) = option.none
-pushOf null = option.none
+pushOf (nullAs q) = option.none
 pushOf (double xs) = option.none
 pushOf (boolean b) = option.none
 pushOf (blobError xs) = option.none

@@ -12,7 +12,10 @@ use Rattle.decimal.specs.declared.Num.{Num}
 use Rattle.decimal.specs.declared.Num.the-variants.{Val, Bad as BadNum}
 use Rattle.resp3.specs.declared.End.{End}
 use Rattle.resp3.specs.declared.End.the-variants.{At, Bad}
-use Rattle.resp3.specs.Ends.{lengthAt, valueEnd}
+use Rattle.resp3.specs.declared.Kind.{Kind}
+use Rattle.resp3.specs.declared.Kind.the-variants.{Null}
+use Rattle.resp3.specs.Kinds.{kindOf}
+use Rattle.resp3.specs.Ends.{lengthAt, nullWordB, valueEnd}
 use Rattle.resp3.specs.Decode.{numCase}
 use Rattle.resp3_element.specs.declared.Cursor.{Cursor}
 use Rattle.resp3_element.specs.declared.Range.{Range}
@@ -33,6 +36,14 @@ standAt s at left = record { at = at; end = cond (eqb left 0) at (endElse at (va
 -- the elements of a list that begins with b
 unfoldable pub listAt : ℕ → Bytes → Elements
 listAt b s = cond (eqb (getD s 0 0) b) (numCase (lengthAt s 1) (λ n e. Of (standAt s e n)) NoList) NoList
+
+-- the kind that the first byte begins, but for RESP2's nulls
+abbrev pub kindAt : Bytes → Kind
+kindAt s = cond (nullWordB s 0) Null (kindOf (getD s 0 0))
+
+-- `_`, or a null of RESP2's
+abbrev pub nullAt : Bytes → Bool
+nullAt s = cond (eqb (getD s 0 0) 95) true (nullWordB s 0)
 
 -- the first byte is a server error's
 abbrev pub errorAt : Bytes → Bool

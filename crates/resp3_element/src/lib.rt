@@ -6,14 +6,12 @@ use resp3::End;
 use resp3::Kind;
 ghost use mathlib.Core.Path.{_≡_};
 ghost use Prim.Native.Nat.{_-_, _≤_, _<_, _^_};
-ghost use lib.Dec.{eqb};
 ghost use lib.ListN.{getD};
 ghost use lib.IntN.{pos, negsuc};
 ghost use Rattle.buffer.specs.Part.{part};
-ghost use Rattle.resp3.specs.Kinds.{kindOf};
 ghost use Rattle.resp3.specs.Value.{Value, Values, more, Means};
 ghost use Rattle.resp3_element.specs.Meaning.{valueKind, isError, isNull, integerOf, blobOf, arrayOf, pushOf, Inside, Stands, Holds};
-ghost use Rattle.resp3_element.specs.Places.{standAt, listAt, errorAt, integerAt, inRange, rangeAt};
+ghost use Rattle.resp3_element.specs.Places.{kindAt, nullAt, standAt, listAt, errorAt, integerAt, inRange, rangeAt};
 
 // Stands at an element of a list: where that begins and ends, and how many elements there are from it on.
 pub struct Cursor {
@@ -47,8 +45,11 @@ fn first_byte(s: &[u8]) -> u8
 // The value's kind.
 pub fn kind(s: &[u8]) -> Kind
     ensures value { λ r. ⌜ ((v : Value) → Means (now (s .entry)) v → r ≡ valueKind v) ⌝ }
-    ensures any { λ r. ⌜ r ≡ kindOf (getD (now (s .entry)) 0 0) ⌝ }
+    ensures any { λ r. ⌜ r ≡ kindAt (now (s .entry)) ⌝ }
 {
+    if resp3::null_word_at(s, 0) {
+        return Kind::Null;
+    }
     resp3::kind_of(first_byte(s))
 }
 
@@ -64,12 +65,15 @@ pub fn is_error(s: &[u8]) -> bool
     b == b'!'
 }
 
-// Whether it is `_`.
+// Whether it is a null, in whatever spelling.
 pub fn is_null(s: &[u8]) -> bool
     ensures value { λ r. ⌜ ((v : Value) → Means (now (s .entry)) v → r ≡ isNull v) ⌝ }
-    ensures any { λ r. ⌜ r ≡ eqb (getD (now (s .entry)) 0 0) 95 ⌝ }
+    ensures any { λ r. ⌜ r ≡ nullAt (now (s .entry)) ⌝ }
 {
-    first_byte(s) == b'_'
+    if first_byte(s) == b'_' {
+        return true;
+    }
+    resp3::null_word_at(s, 0)
 }
 
 // A number below 2^63 as an i64.

@@ -12,7 +12,7 @@ use Rattle.resp3.specs.declared.Kind.{Kind}
 use Rattle.resp3.specs.declared.Kind.the-variants.{BlobString, SimpleString, SimpleError, Number, Null, Double, Boolean, BlobError, VerbatimString}
 use Rattle.resp3.specs.declared.Kind.the-variants.{BigNumber, Array, Map, Set, Attribute, Push, Unknown}
 use Rattle.resp3.specs.Kinds.{kindOf}
-use Rattle.resp3.specs.Ends.{plain}
+use Rattle.resp3.specs.Ends.{plain, nullWordB}
 use Rattle.resp3_prefix.specs.declared.Begun.{Begun}
 use Rattle.resp3_prefix.specs.declared.Begun.the-variants.{Ends, Lacks, Never}
 use Rattle.resp3_prefix.specs.declared.Count.{Count}
@@ -76,6 +76,14 @@ blobOf s NoCount = Never
 
 unfoldable pub blobBegun : Bytes → ℕ → Begun
 blobBegun s at = blobOf s (countBegun maxBytes s at)
+
+-- the same behind `$`, where RESP2's null is the shortest: -1 and CR LF
+unfoldable pub stringBegun : Bytes → ℕ → Begun
+stringBegun s at = cond (leb (length s) at) (Lacks 4) (blobBegun s at)
+
+-- the rest of that null behind its minus: 1 and CR LF
+unfoldable pub oneBegun : Bytes → ℕ → Begun
+oneBegun s at = cond (leb (length s) at) (Lacks 3) (cond (eqb (getD s at 0) 49) (crlfBegun s (at + 1)) Never)
 
 -- the fourth byte, if it is there, is a colon
 unfoldable pub verbatimBody : Bytes → ℕ → ℕ → Begun
@@ -141,7 +149,7 @@ rowOf d a b NoCount = NoHead
 
 -- what stands at p, behind a first byte, by its kind
 unfoldable pub bodyBegun : ℕ → Kind → Bytes → ℕ → Opened
-bodyBegun d BlobString s p = aloneOf (blobBegun s p)
+bodyBegun d BlobString s p = aloneOf (stringBegun s p)
 bodyBegun d SimpleString s p = aloneOf (lineBegun s p)
 bodyBegun d SimpleError s p = aloneOf (lineBegun s p)
 bodyBegun d Number s p = aloneOf (integerBegun s p)
@@ -158,9 +166,13 @@ bodyBegun d Attribute s p = rowOf d 2 1 (countBegun maxBytes s p)
 bodyBegun d Push s p = rowOf d 1 0 (countBegun maxBytes s p)
 bodyBegun d Unknown s p = NoHead
 
--- what stands at `at`, up to the first value inside it
+-- what stands at `at`, up to the first value inside it, by the kind of its first byte
+unfoldable pub kindBegun : ℕ → Bytes → ℕ → Opened
+kindBegun d s at = cond (leb (length s) at) (LacksHead 3) (bodyBegun d (kindOf (getD s at 0)) s (at + 1))
+
+-- the same with RESP2's nulls
 unfoldable pub headBegun : ℕ → Bytes → ℕ → Opened
-headBegun d s at = cond (leb (length s) at) (LacksHead 3) (bodyBegun d (kindOf (getD s at 0)) s (at + 1))
+headBegun d s at = cond (nullWordB s at) (aloneOf (oneBegun s (at + 2))) (kindBegun d s at)
 
 -- go on with the values inside
 abbrev pub headThen : Opened → (ℕ → ℕ → Begun) → Begun

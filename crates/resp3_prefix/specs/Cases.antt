@@ -7,17 +7,17 @@ use Rattle.buffer.specs.Ascii.{ascii}
 use Rattle.buffer.specs.Same.{Bytes}
 use Rattle.resp3.specs.Kinds.{kindOf}
 use Rattle.resp3.specs.Value.{plainB}
-use Rattle.resp3.specs.Ends.{plain}
+use Rattle.resp3.specs.Ends.{plain, nullWordB}
 use Rattle.resp3_prefix.specs.declared.Begun.the-variants.{Ends, Lacks, Never}
 use Rattle.resp3_prefix.specs.Begun.{lacking, lackingRow, lackingBelow, crlfBegun, countEnd, countBegun, lineBegun, blobBegun, verbatimBody}
-use Rattle.resp3_prefix.specs.Begun.{verbatimDigits, verbatimBegun, integerBegun, booleanBegun, bodyBegun, headBegun, iter, valueBegun}
-use Rattle.resp3_prefix.specs.Begun.{rowBegun, firstValue}
+use Rattle.resp3_prefix.specs.Begun.{stringBegun, oneBegun, verbatimDigits, verbatimBegun, integerBegun, booleanBegun, bodyBegun, kindBegun}
+use Rattle.resp3_prefix.specs.Begun.{headBegun, iter, valueBegun, rowBegun, firstValue}
 
 -- one name that opens the reader
 unfoldable case-defs : Unit {0}
 unfolding
-    kindOf plainB plain lacking lackingRow lackingBelow crlfBegun countEnd countBegun lineBegun blobBegun verbatimBody verbatimDigits verbatimBegun integerBegun
-    booleanBegun bodyBegun headBegun iter valueBegun rowBegun firstValue
+    kindOf plainB plain lacking lackingRow lackingBelow crlfBegun countEnd countBegun lineBegun blobBegun stringBegun oneBegun verbatimBody verbatimDigits
+    verbatimBegun integerBegun booleanBegun bodyBegun nullWordB kindBegun headBegun iter valueBegun rowBegun firstValue
 case-defs = tt
 
 -- nothing yet: `_` CR LF is the shortest
@@ -52,6 +52,24 @@ lf-alone = refl
 length-begun : firstValue (ascii "$1") ≡ Lacks 5
 unfolding case-defs
 length-begun = refl
+
+-- behind `$` alone RESP2's null is the shortest, and behind `*` the array of none; a blob error has no such null
+nothing-begun : (firstValue (ascii "$") ≡ Lacks 4) × (firstValue (ascii "*") ≡ Lacks 3) × (firstValue (ascii "!") ≡ Lacks 5)
+unfolding case-defs
+nothing-begun = (refl, refl, refl)
+
+-- behind a minus only that null
+null-begun :
+    (firstValue (ascii "$-") ≡ Lacks 3) × (firstValue (ascii "$-1") ≡ Lacks 2) × (firstValue (ascii "*-1\r") ≡ Lacks 1)
+    × (firstValue (ascii "*-1\r\n_") ≡ Ends 5)
+unfolding case-defs
+null-begun = (refl, refl, refl, refl)
+
+no-other-null :
+    (firstValue (ascii "$-2") ≡ Never) × (firstValue (ascii "*-0") ≡ Never) × (firstValue (ascii "$-01") ≡ Never) × (firstValue (ascii "$-10") ≡ Never)
+    × (firstValue (ascii "!-") ≡ Never) × (firstValue (ascii "~-") ≡ Never)
+unfolding case-defs
+no-other-null = (refl, refl, refl, refl, refl, refl)
 
 bytes-begun : firstValue (ascii "$3\r\nab") ≡ Lacks 3
 unfolding case-defs

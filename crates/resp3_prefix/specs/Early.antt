@@ -18,9 +18,11 @@ use Rattle.decimal.specs.NumLaw.{head-ge}
 use Rattle.resp3.specs.Value.{crlf, counted, framed, integer, plainB, oneLine, Fits64}
 use Rattle.resp3.specs.Ends.{plain}
 use Rattle.resp3_prefix.specs.declared.Begun.{Begun}
-use Rattle.resp3_prefix.specs.Begun.{crlfBegun, countBegun, lineBegun, blobBegun, verbatimBody, verbatimDigits, verbatimBegun, digitsOf}
-use Rattle.resp3_prefix.specs.Begun.{minusOf, integerBegun, booleanBegun}
+use Rattle.resp3_prefix.specs.declared.Begun.the-variants.{Lacks}
+use Rattle.resp3_prefix.specs.Begun.{crlfBegun, countBegun, lineBegun, blobBegun, stringBegun, oneBegun, verbatimBody, verbatimDigits, verbatimBegun}
+use Rattle.resp3_prefix.specs.Begun.{digitsOf, minusOf, integerBegun, booleanBegun}
 use Rattle.resp3_prefix.specs.Paths as paths
+use Rattle.resp3_prefix.specs.Nulls as nulls
 use Rattle.resp3_prefix.specs.Split.{cut}
 use Rattle.resp3_prefix.specs.Counts.{Stands, whole, nothing, digits-all, digits-some, ended, stands}
 use Rattle.resp3_prefix.specs.Pieces.{Early, lacks, cr-only, frame-early, plain-body, line-front}
@@ -78,6 +80,18 @@ module _ (s : Bytes) (p : ℕ) (l : p ≤ length s) (q : Bytes) (o : 0 < length 
       go (digits-all c g) = lacks (length x + 4) (paths.blob-is s p _ c) (omega (arith, length-append x (crlf [])))
       go (digits-some m a b c g) = lacks (m + 4) (paths.blob-is s p _ c) (omega (arith, length-append x (crlf [])))
       go (ended c g) = lacks (length x + 3) (paths.blob-is s p _ c) (omega (arith, length-append x (crlf [])))
+
+  -- a blob string
+  pub string-early : (x : Bytes) → length x ≤ maxBytes → framed x [] ≡ drop p s ++ q → Early (stringBegun s p) (length q)
+  string-early x m e =
+      let z = blob-early x m e in
+      byTest (leb (length s) p)
+      (λ t.
+      let i = leb-true (length s) p t in
+      let five : Lacks (z .k) ≡ Lacks 5 = sym (z .is) ∙ paths.blob-is s p _ (paths.count-out maxBytes s p i) in
+      let k : z .k ≡ 5 = cc in
+      lacks 4 (nulls.string-out s p i) (omega (arith, z .least)))
+      (λ t. early-as (nulls.string-in s p (leb-false (length s) p t)) z)
 
   -- ---- verbatim strings
 
@@ -154,22 +168,23 @@ module _ (s : Bytes) (p : ℕ) (l : p ≤ length s) (q : Bytes) (o : 0 < length 
       go (ended c g) = lacks 1 (ap minusOf c ∙ paths.minus-ended n (λ y. omega arith)) (omega arith)
 
   -- a digit is no minus
-  no-minus : (n : ℕ) → counted n [] ≡ drop p s ++ q → (getD s p 0 ≡ 45) → ⊥
-  no-minus n e h =
+  pub no-minus : (n : ℕ) (r : Bytes) → counted n r ≡ drop p s ++ q → (getD s p 0 ≡ 45) → ⊥
+  no-minus n r e h =
       byTest (leb (length s) p)
       (λ t. let z = getD-out s p (leb-true (length s) p t) in omega arith)
       (λ t.
       let i = leb-false (length s) p t in
       let a = length-drop p s in
       let b : getD (drop p s ++ q) 0 0 ≡ getD (drop p s) 0 0 = List·getD-append (drop p s) q 0 0 (omega arith) in
-      let c : getD s p 0 ≡ getD (counted n []) 0 0 = getD-drop0 s p ∙ sym b ∙ ap (λ (z : Bytes). getD z 0 0) (sym e) in
-      let g = head-ge n (crlf []) in
+      let c : getD s p 0 ≡ getD (counted n r) 0 0 = getD-drop0 s p ∙ sym b ∙ ap (λ (z : Bytes). getD z 0 0) (sym e) in
+      let g = head-ge n (crlf r) in
       omega arith)
 
 -- a first byte and CR LF behind it, or behind something
 module _ (s : Bytes) (p : ℕ) (l : p ≤ length s) (q : Bytes) (o : 0 < length q) where
   pub integer-early : (z : ℤ) → Fits64 z → integer z ++ crlf [] ≡ drop p s ++ q → Early (integerBegun s p) (length q)
-  integer-early (pos n) f e = early-as (paths.integer-plain s p _ (no-minus s p l q o n e) refl) (digits-early s p l q o 9223372036854775807 n (omega arith) e)
+  integer-early (pos n) f e =
+      early-as (paths.integer-plain s p _ (no-minus s p l q o n [] e) refl) (digits-early s p l q o 9223372036854775807 n (omega arith) e)
   integer-early (negsuc n) f e =
       open-byte s p 45 (counted (suc n) []) q e
       (λ i g. lacks 3 (paths.integer-out s p i) (let k = count-pos (suc n) in omega (arith, ap length g, length-append (digits (suc n)) (crlf []))))
@@ -187,3 +202,10 @@ module _ (s : Bytes) (p : ℕ) (l : p ≤ length s) (q : Bytes) (o : 0 < length 
       open-byte s p 102 (crlf []) q e
       (λ i g. lacks 3 (paths.bool-out s p i) (omega (arith, ap length g)))
       (λ i h g. early-as (paths.bool-f s p i h) (frame-early s (p + 1) (p + 1) [] q (omega arith) (omega arith) g o))
+
+  -- the rest of a null of RESP2's
+  pub one-early : 49 ∷ crlf [] ≡ drop p s ++ q → Early (oneBegun s p) (length q)
+  one-early e =
+      open-byte s p 49 (crlf []) q e
+      (λ i g. lacks 3 (nulls.one-out s p i) (omega (arith, ap length g)))
+      (λ i h g. early-as (nulls.one-yes s p i h) (frame-early s (p + 1) (p + 1) [] q (omega arith) (omega arith) g o))

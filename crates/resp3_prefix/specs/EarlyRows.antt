@@ -12,9 +12,9 @@ use Rattle.buffer.specs.Same.{Bytes}
 use Rattle.config.specs.Limits.{maxBytes}
 use Rattle.decimal.specs.Digits.{digits}
 use Rattle.decimal.specs.DigitLaws.{count-pos}
-use Rattle.resp3.specs.Value.{Value, Values, blobString, simpleString, simpleError, number, null, double, boolean, blobError, verbatimString}
-use Rattle.resp3.specs.Value.{bigNumber, array, map, set, attribute, push, none, more, count, deepest, depth, Valid, Valids, crlf, counted, integer}
-use Rattle.resp3.specs.Value.{enc, encs}
+use Rattle.resp3.specs.Value.{underscore, blobNull, arrayNull, Value, Values, blobString, simpleString, simpleError, number, nullAs, double, boolean}
+use Rattle.resp3.specs.Value.{blobError, verbatimString, bigNumber, array, map, set, attribute, push, none, more, count, deepest, depth, Valid, Valids}
+use Rattle.resp3.specs.Value.{crlf, counted, integer, enc, encs}
 use Rattle.resp3.specs.Rows.{longer, room, roomPairs}
 use Rattle.resp3.specs.Complete.{read-law}
 use Rattle.resp3_prefix.specs.declared.Begun.the-variants.{Ends, Lacks}
@@ -39,7 +39,9 @@ three-long (blobString xs) r = let k = count-pos (length xs) in simp length-appe
 three-long (simpleString xs) r = simp length-append (omega arith)
 three-long (simpleError xs) r = simp length-append (omega arith)
 three-long (number z) r = let k = integer-long z in simp length-append (omega arith)
-three-long null r = omega arith
+three-long (nullAs underscore) r = omega arith
+three-long (nullAs blobNull) r = omega arith
+three-long (nullAs arrayNull) r = omega arith
 three-long (double xs) r = simp length-append (omega arith)
 three-long (boolean b) r = omega arith
 three-long (blobError xs) r = let k = count-pos (length xs) in simp length-append (omega arith)

@@ -1,12 +1,12 @@
 -- Bytes that lack k begin a value's bytes, which are exactly k longer: rows, and whole values. Assumes nothing.
-use mathlib.Core.Path.{_≡_, refl, sym, ap, _∙_, subst}
+use mathlib.Core.Path.{_≡_, refl, sym, ap, _∙_}
 use mathlib.Core.Logic.{⊎-elim}
 use mathlib.Core.List.{[], _∷_, _++_, append-assoc}
 use Prim.Native.Nat.{ℕ, zero, suc, _+_, _*_, _≤_, _<_}
 use native.Mathlib.Omega.{arith}
-use lib.Dec.{leb, eqb}
+use lib.Dec.{leb}
 use lib.ListN.{length, getD, drop, length-append, drop-of-length-le}
-use borrow.Author.Tests.{leb-true, leb-false, eqb-true, eqb-false}
+use borrow.Author.Tests.{leb-true, leb-false}
 use Rattle.buffer.specs.Cases.{byTest}
 use Rattle.buffer.specs.Same.{Bytes}
 use Rattle.buffer.specs.Places.{step}
@@ -17,50 +17,25 @@ use Rattle.resp3.specs.declared.Kind.the-variants.{BlobString, SimpleString, Si
 use Rattle.resp3.specs.declared.Kind.the-variants.{BigNumber, Array, Map, Set, Attribute, Push, Unknown}
 use Rattle.resp3.specs.Kinds.{byteOf, kindOf}
 use Rattle.resp3.specs.KindLaws.{kind-known}
-use Rattle.resp3.specs.Value.{Value, Values, blobString, simpleString, simpleError, number, null, double, boolean, blobError, verbatimString}
-use Rattle.resp3.specs.Value.{bigNumber, more, count, below, deepest, depth, Valid, Valids, crlf, counted, enc, encs, encode}
+use Rattle.resp3.specs.Value.{blobNull, Value, Values, blobString, simpleString, simpleError, number, nullAs, null, double, boolean, blobError}
+use Rattle.resp3.specs.Value.{verbatimString, bigNumber, more, count, below, deepest, depth, Valid, Valids, crlf, counted, enc, encs, encode}
 use Rattle.resp3.specs.Rows.{enc-is}
+use Rattle.resp3.specs.Ends.{nullWordB}
 use Rattle.resp3.specs.Sound.{end-sound}
 use Rattle.resp3_prefix.specs.declared.Begun.{Begun}
 use Rattle.resp3_prefix.specs.declared.Begun.the-variants.{Ends, Lacks, Never}
 use Rattle.resp3_prefix.specs.declared.Count.{Count}
 use Rattle.resp3_prefix.specs.declared.Count.the-variants.{Whole, Nothing, Digits, Ended, Never as NoCount}
-use Rattle.resp3_prefix.specs.Begun.{lacking, lackingRow, lackingBelow, countBegun, aloneOf, rowOf, bodyBegun, headBegun, headThen, begunThen}
-use Rattle.resp3_prefix.specs.Begun.{iter, valueBegun, rowBegun}
+use Rattle.resp3_prefix.specs.Begun.{lackingBelow, countBegun, aloneOf, rowOf, bodyBegun, kindBegun, headBegun, headThen}
+use Rattle.resp3_prefix.specs.Begun.{begunThen, iter, valueBegun, rowBegun}
 use Rattle.resp3_prefix.specs.CountSays.{count-says, whole-bounds}
 use Rattle.resp3_prefix.specs.SameRows.{alone-is, end-bounds, value-agree}
 use Rattle.resp3_prefix.specs.Found.{Rest, lacks-same, never-lacks, ends-lacks, fill-nothing, fill-digits, fill-ended, fill-whole, behind}
 use Rattle.resp3_prefix.specs.Found.{crlf-found, line-found, blob-found, integer-found, boolean-found}
+use Rattle.resp3_prefix.specs.Nulls.{string-found, null-found}
 use Rattle.resp3_prefix.specs.FoundVerbatim.{verbatim-found}
 use Rattle.resp3_prefix.specs.Makes.{Makes, array-makes, map-makes, set-makes, attribute-makes, push-makes, nulls, nulls-count, nulls-valid}
-use Rattle.resp3_prefix.specs.Makes.{nulls-deep, nulls-long}
-
--- ---- sizes
-
-lacking-says : (x k : ℕ) → lacking x ≡ Lacks k → x ≡ k
-unfolding lacking
-lacking-says x k h = byTest (leb x maxBytes) (λ t. lacks-same x k (rw t at h)) (λ t. absurd (never-lacks k (rw t at h)))
-
-row-says : (x n k : ℕ) → lackingRow x n ≡ Lacks k → x + 3 * n ≡ k
-unfolding lackingRow
-row-says x n k h =
-    byTest (leb x maxBytes)
-    (λ t. byTest (leb n maxBytes) (λ u. lacking-says (x + 3 * n) k (rw (t, u) at h)) (λ u. absurd (never-lacks k (rw (t, u) at h))))
-    (λ t. absurd (never-lacks k (rw t at h)))
-
--- behind a count: as many bytes, and nulls that are not too deep
-below-says : (d x n k : ℕ) → lackingBelow d x n ≡ Lacks k → (x + 3 * n ≡ k) × (deepest (nulls n) ≤ d)
-unfolding lackingBelow
-below-says d x n k h =
-    byTest (eqb n 0)
-    (λ t.
-    let z = eqb-true n 0 t in
-    let y = lacks-same x k (rw t at h) in
-    (omega arith, subst (λ (i : ℕ). deepest (nulls i) ≤ d) (sym z) (omega arith)))
-    (λ t.
-    byTest (eqb d 0)
-    (λ u. absurd (never-lacks k (rw (t, u) at h)))
-    (λ u. let y = eqb-false d 0 u in let z = nulls-deep n in (row-says x n k (rw (t, u) at h), omega arith)))
+use Rattle.resp3_prefix.specs.Makes.{nulls-deep, nulls-long, row-says, below-says}
 
 -- ---- a value, and a row of values
 
@@ -215,7 +190,11 @@ module _ (d : ℕ) (s : Bytes) (small : length s ≤ maxBytes) (one : (at k : �
 
     by-kind : (kind : Kind) → p ≤ length s → headThen (bodyBegun d kind s p) (λ n e. rowBegun d s n e) ≡ Lacks k → Fills kind p k
     unfolding bodyBegun
-    by-kind BlobString l h = let f = blob-found s p k (sym (alone-is d s _) ∙ h) in single BlobString (blobString (f .0)) _ tt (omega arith) refl (f .1)
+    by-kind BlobString l h =
+        ⊎-elim
+        (λ f. single BlobString (nullAs blobNull) _ tt (omega arith) refl f)
+        (λ f. single BlobString (blobString (f .0)) _ tt (omega arith) refl (f .1))
+        (string-found s p k (sym (alone-is d s _) ∙ h))
     by-kind SimpleString l h =
         let f = line-found s p k l (sym (alone-is d s _) ∙ h) in
         single SimpleString (simpleString (f .0)) _ (f .1) (omega arith) refl (f .2)
@@ -262,9 +241,10 @@ module _ (d : ℕ) (s : Bytes) (small : length s ≤ maxBytes) (one : (at k : �
   unfolding bodyBegun
   unknown at k u h = never-lacks k (rw u at h)
 
-  value-opened : (at k : ℕ) → at ≤ length s → valueBegun (suc d) s at ≡ Lacks k → Found (suc d) s at k
-  unfolding valueBegun headBegun rowBegun
-  value-opened at k l h =
+  -- a value, by the kind of its first byte
+  kind-opened : (at k : ℕ) → headThen (kindBegun d s at) (λ n e. rowBegun d s n e) ≡ Lacks k → Found (suc d) s at k
+  unfolding kindBegun
+  kind-opened at k h =
       byTest (leb (length s) at)
       (λ t.
       let e : drop at s ≡ [] = drop-of-length-le s {i = at} (leb-true (length s) at t) in
@@ -287,6 +267,15 @@ module _ (d : ℕ) (s : Bytes) (small : length s ≤ maxBytes) (one : (at k : �
       (λ u. absurd (unknown at k u b))
       (kind-known (getD s at 0)))
 
+  value-opened : (at k : ℕ) → valueBegun (suc d) s at ≡ Lacks k → Found (suc d) s at k
+  unfolding valueBegun headBegun rowBegun
+  value-opened at k h =
+      byTest (nullWordB s at)
+      (λ w.
+      let f = null-found s at k w (sym (alone-is d s _) ∙ rw w at h) in
+      record { v = nullAs (f .0); ok = tt; deep = omega arith; rest = f .1 })
+      (λ w. kind-opened at k (rw w at h))
+
 -- no value nests at most 0 deep
 zero-never : (s : Bytes) (at k : ℕ) → valueBegun 0 s at ≡ Lacks k → Never ≡ Lacks k
 unfolding valueBegun
@@ -295,4 +284,4 @@ zero-never s at k h = h
 -- bytes that lack k begin a value's, which is k longer
 pub value-found : (d : ℕ) (s : Bytes) → length s ≤ maxBytes → (at k : ℕ) → at ≤ length s → valueBegun d s at ≡ Lacks k → Found d s at k
 value-found zero s small at k l h = absurd (never-lacks k (zero-never s at k h))
-value-found (suc d) s small at k l h = value-opened d s small (λ a j i e. value-found d s small a j i e) at k l h
+value-found (suc d) s small at k l h = value-opened d s small (λ a j i e. value-found d s small a j i e) at k h

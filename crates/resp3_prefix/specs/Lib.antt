@@ -7,8 +7,9 @@ pub mod Counts
 pub mod CountSays
 pub mod Pieces
 pub mod Same
-pub mod SameRows
 pub mod Found
+pub mod Nulls
+pub mod SameRows
 pub mod FoundVerbatim
 pub mod Makes
 pub mod FoundRows

@@ -3,14 +3,21 @@ use mathlib.Core.Path.{_≡_, refl, sym, ap, ap₂, _∙_, subst}
 use mathlib.Core.List.{[], _∷_}
 use Prim.Native.Nat.{ℕ, zero, suc, _+_, _*_, _≤_}
 use native.Mathlib.Omega.{arith}
+use lib.Dec.{leb, eqb}
 use lib.ListN.{length}
+use borrow.Author.Tests.{eqb-true, eqb-false}
+use Rattle.buffer.specs.Cases.{byTest}
 use Rattle.buffer.specs.Same.{Bytes}
+use Rattle.config.specs.Limits.{maxBytes}
 use Rattle.resp3.specs.declared.Kind.{Kind}
 use Rattle.resp3.specs.declared.Kind.the-variants.{Array, Map, Set, Attribute, Push}
 use Rattle.resp3.specs.Kinds.{byteOf}
 use Rattle.resp3.specs.Value.{Value, Values, null, array, map, set, attribute, push, none, more, count, countPairs, below, deepest, deepestPairs}
 use Rattle.resp3.specs.Value.{Valid, Valids, ValidPairs, counted, enc, encs, encPairs}
 use Rattle.resp3.specs.Rows.{flat, flat-enc, valid-flat, deep-flat, headOf, pairUp, skip, paired, row-none, row-one}
+use Rattle.resp3_prefix.specs.declared.Begun.the-variants.{Lacks}
+use Rattle.resp3_prefix.specs.Begun.{lacking, lackingRow, lackingBelow}
+use Rattle.resp3_prefix.specs.Found.{lacks-same, never-lacks}
 
 -- a kind that holds values behind a count n, a * n + b of them
 pub record Makes (k : Kind) (a b : ℕ) : Type 0 where
@@ -99,3 +106,30 @@ nulls-deep (suc n) = let k = nulls-deep n in omega arith
 pub nulls-long : (n : ℕ) → length (encs (nulls n) []) ≡ 3 * n
 nulls-long zero = refl
 nulls-long (suc n) = let k = nulls-long n in omega arith
+
+-- ---- what is lacking before a row, in bytes
+
+lacking-says : (x k : ℕ) → lacking x ≡ Lacks k → x ≡ k
+unfolding lacking
+lacking-says x k h = byTest (leb x maxBytes) (λ t. lacks-same x k (rw t at h)) (λ t. absurd (never-lacks k (rw t at h)))
+
+pub row-says : (x n k : ℕ) → lackingRow x n ≡ Lacks k → x + 3 * n ≡ k
+unfolding lackingRow
+row-says x n k h =
+    byTest (leb x maxBytes)
+    (λ t. byTest (leb n maxBytes) (λ u. lacking-says (x + 3 * n) k (rw (t, u) at h)) (λ u. absurd (never-lacks k (rw (t, u) at h))))
+    (λ t. absurd (never-lacks k (rw t at h)))
+
+-- behind a count: as many bytes, and nulls that are not too deep
+pub below-says : (d x n k : ℕ) → lackingBelow d x n ≡ Lacks k → (x + 3 * n ≡ k) × (deepest (nulls n) ≤ d)
+unfolding lackingBelow
+below-says d x n k h =
+    byTest (eqb n 0)
+    (λ t.
+    let z = eqb-true n 0 t in
+    let y = lacks-same x k (rw t at h) in
+    (omega arith, subst (λ (i : ℕ). deepest (nulls i) ≤ d) (sym z) (omega arith)))
+    (λ t.
+    byTest (eqb d 0)
+    (λ u. absurd (never-lacks k (rw (t, u) at h)))
+    (λ u. let y = eqb-false d 0 u in let z = nulls-deep n in (row-says x n k (rw (t, u) at h), omega arith)))

@@ -1,6 +1,7 @@
 -- One equation for each way through the reader's code, by which the proofs of its functions go. Assumes nothing.
 -- (Where a definition changes, a worked case is to say so first: this file cites one.)
 use mathlib.Core.Path.{_≡_, refl, sym, ap, _∙_}
+use mathlib.Core.Bool.{true, false}
 use Prim.Native.Nat.{ℕ, zero, suc, _+_, _*_, _-_, _≤_, _<_, min}
 use native.Mathlib.Omega.{arith}
 use lib.Dec.{leb, eqb}
@@ -12,7 +13,7 @@ use Rattle.buffer.specs.Same.{Bytes}
 use Rattle.buffer.specs.Places.{getD-out}
 use Rattle.config.specs.Limits.{maxBytes, maxDepth}
 use Rattle.decimal.specs.Read.{lead, valAcc}
-use Rattle.resp3.specs.Ends.{plain}
+use Rattle.resp3.specs.Ends.{plain, nullWordB}
 use Rattle.resp3.specs.Kinds.{kindOf}
 use Rattle.resp3.specs.declared.Kind.{Kind}
 use Rattle.resp3_prefix.specs.declared.Begun.{Begun}
@@ -22,6 +23,7 @@ use Rattle.resp3_prefix.specs.declared.Count.the-variants.{Whole, Nothin
 use Rattle.resp3_prefix.specs.declared.Opened.{Opened}
 use Rattle.resp3_prefix.specs.declared.Opened.the-variants.{Lacks as LacksHead}
 use Rattle.resp3_prefix.specs.Begun.{lacking, lackingRow, lackingBelow, crlfBegun, countEnd, countBegun, lineBegun, blobOf, blobBegun}
+use Rattle.resp3_prefix.specs.Begun.{oneBegun, aloneOf, kindBegun}
 use Rattle.resp3_prefix.specs.Begun.{verbatimBody, verbatimDigits, verbatimOf, verbatimBegun, digitsOf, minusOf, integerBegun, booleanBegun}
 use Rattle.resp3_prefix.specs.Begun.{bodyBegun, headBegun, headThen, begunThen, iter, valueBegun, rowBegun, within, firstValue}
 use Rattle.resp3_prefix.specs.Cases.{depth-17}
@@ -229,13 +231,21 @@ module _ (s : Bytes) (at : ℕ) where
 -- ---- values with others inside
 
 module _ (d : ℕ) (s : Bytes) (at : ℕ) where
-  pub head-out : length s ≤ at → headBegun d s at ≡ LacksHead 3
-  unfolding headBegun
-  head-out l = rw (le-leb (length s) at l)
+  pub kind-out : length s ≤ at → kindBegun d s at ≡ LacksHead 3
+  unfolding kindBegun
+  kind-out l = rw (le-leb (length s) at l)
 
-  pub head-is : (k : Kind) → at < length s → kindOf (getD s at 0) ≡ k → headBegun d s at ≡ bodyBegun d k s (at + 1)
+  pub kind-is : (k : Kind) → at < length s → kindOf (getD s at 0) ≡ k → kindBegun d s at ≡ bodyBegun d k s (at + 1)
+  unfolding kindBegun
+  kind-is k l e = rw (lt-leb (length s) at l, e)
+
+  pub head-null : nullWordB s at ≡ true → headBegun d s at ≡ aloneOf (oneBegun s (at + 2))
   unfolding headBegun
-  head-is k l e = rw (lt-leb (length s) at l, e)
+  head-null w = rw w
+
+  pub head-kind : nullWordB s at ≡ false → headBegun d s at ≡ kindBegun d s at
+  unfolding headBegun
+  head-kind w = rw w
 
 module _ (d : ℕ) (s : Bytes) where
   pub value-zero : (at : ℕ) → d ≡ 0 → valueBegun d s at ≡ Never

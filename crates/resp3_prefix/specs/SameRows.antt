@@ -15,7 +15,7 @@ use Rattle.resp3.specs.declared.End.{End}
 use Rattle.resp3.specs.declared.End.the-variants.{At, Bad}
 use Rattle.resp3.specs.Kinds.{shapeOf, kindOf}
 use Rattle.resp3.specs.Rows.{longer}
-use Rattle.resp3.specs.Ends.{lengthAt, countOf, endThen, bodyHead, headAt, valueEnd, itemsEnd}
+use Rattle.resp3.specs.Ends.{lengthAt, countOf, endThen, bodyHead, nullWordB, kindHead, headAt, valueEnd, itemsEnd}
 use Rattle.resp3.specs.Ends as ends
 use Rattle.resp3.specs.Paths as paths
 use Rattle.resp3.specs.Says.{not-bad, at-same, num-then}
@@ -25,10 +25,12 @@ use Rattle.resp3_prefix.specs.declared.Begun.{Begun}
 use Rattle.resp3_prefix.specs.declared.Begun.the-variants.{Ends, Lacks, Never}
 use Rattle.resp3_prefix.specs.declared.Count.{Count}
 use Rattle.resp3_prefix.specs.declared.Count.the-variants.{Whole, Nothing, Digits, Ended, Never as NoCount}
-use Rattle.resp3_prefix.specs.Begun.{lackingBelow, countBegun, aloneOf, rowOf, bodyBegun, headBegun, headThen, begunThen, iter, valueBegun, rowBegun}
+use Rattle.resp3_prefix.specs.Begun.{lackingBelow, countBegun, aloneOf, rowOf, bodyBegun, kindBegun, headBegun, headThen, begunThen, iter, valueBegun}
+use Rattle.resp3_prefix.specs.Begun.{rowBegun}
 use Rattle.resp3_prefix.specs.CountSays.{whole-bounds}
 use Rattle.resp3_prefix.specs.Same.{lacks-no-end, never-no-end, same-end, row-no-end, below-no-end, Agree, neither, crlf-agree, length-to}
 use Rattle.resp3_prefix.specs.Same.{length-from, line-agree, blob-agree, verbatim-agree, integer-agree, boolean-agree}
+use Rattle.resp3_prefix.specs.Nulls.{string-agree, one-agree}
 
 -- the same, in other words
 agree-as : {x z : Begun} {y w : End} → z ≡ x → w ≡ y → Agree x y → Agree z w
@@ -112,7 +114,7 @@ module _ (d : ℕ) (s : Bytes) (small : length s ≤ maxBytes) (one : (at : ℕ)
   -- what stands behind a first byte
   body-agree : (p : ℕ) (k : Kind) → Agree (headThen (bodyBegun d k s p) (λ n e. rowBegun d s n e)) (paths.bodyEnd (shapeOf k) s (λ n e. itemsEnd d s n e) p)
   unfolding bodyBegun bodyHead
-  body-agree p BlobString = agree-as (alone-is d s _) (paths.alone-is d s _) (blob-agree s small p)
+  body-agree p BlobString = agree-as (alone-is d s _) (paths.alone-is d s _) (string-agree s small p)
   body-agree p SimpleString = agree-as (alone-is d s _) (paths.alone-is d s _) (line-agree s small p)
   body-agree p SimpleError = agree-as (alone-is d s _) (paths.alone-is d s _) (line-agree s small p)
   body-agree p Number = agree-as (alone-is d s _) (paths.alone-is d s _) (integer-agree s small p)
@@ -129,13 +131,22 @@ module _ (d : ℕ) (s : Bytes) (small : length s ≤ maxBytes) (one : (at : ℕ)
   body-agree p Push = row-agree p 1 0 (λ n. n) (λ n. omega arith) (λ n. omega arith)
   body-agree p Unknown = neither Never Bad (λ e h. never-no-end e h) refl
 
+  -- what a first byte's kind says
+  kind-agree : (at : ℕ) → Agree (headThen (kindBegun d s at) (λ n e. rowBegun d s n e)) (ends.headThen (kindHead s at) (λ n e. itemsEnd d s n e))
+  unfolding kindBegun kindHead
+  kind-agree at =
+      byTest (leb (length s) at)
+      (λ t.
+      let l = leb-true (length s) at t in
+      let out = ap (λ x. ends.headThen x (λ n e. itemsEnd d s n e)) (paths.kind-out s at l) in
+      rw t (neither (Lacks 3) (ends.headThen (kindHead s at) (λ n e. itemsEnd d s n e)) (λ e h. lacks-no-end 3 e h) out))
+      (λ t. rw t (body-agree (at + 1) (kindOf (getD s at 0))))
+
 -- both readers find the same ends
 pub value-agree : (d : ℕ) (s : Bytes) → length s ≤ maxBytes → (at : ℕ) → Agree (valueBegun d s at) (valueEnd d s at)
 unfolding valueBegun headBegun rowBegun valueEnd headAt itemsEnd
 value-agree zero s small at = neither Never Bad (λ e h. never-no-end e h) refl
 value-agree (suc d) s small at =
-    byTest (leb (length s) at)
-    (λ t.
-    let l = leb-true (length s) at t in
-    rw t ((λ e h. absurd (lacks-no-end 3 e h)), (λ e h. absurd (let i = paths.end-in (suc d) s at e h in omega arith))))
-    (λ t. rw t (body-agree d s small (λ q. value-agree d s small q) (at + 1) (kindOf (getD s at 0))))
+    byTest (nullWordB s at)
+    (λ w. rw w (agree-as (alone-is d s _) (paths.alone-is d s _) (one-agree s small (at + 2))))
+    (λ w. rw w (kind-agree d s small (λ q. value-agree d s small q) at))

@@ -9,8 +9,8 @@ ghost use Rattle.config.specs.Limits.{maxBytes};
 ghost use Rattle.decimal.specs.Read.{digitB};
 ghost use Rattle.resp3.specs.Value.{plainB};
 ghost use Rattle.resp3_prefix.specs.Begun.{lacking, lackingRow, lackingBelow, crlfBegun, countEnd, countBegun, lineBegun, blobBegun};
-ghost use Rattle.resp3_prefix.specs.Begun.{verbatimBody, verbatimDigits, verbatimBegun, digitsOf, minusOf, integerBegun, booleanBegun};
-ghost use Rattle.resp3_prefix.specs.Begun.{aloneOf, rowOf, headBegun, valueBegun, within, firstValue};
+ghost use Rattle.resp3_prefix.specs.Begun.{stringBegun, oneBegun, verbatimBody, verbatimDigits, verbatimBegun, digitsOf, minusOf};
+ghost use Rattle.resp3_prefix.specs.Begun.{integerBegun, booleanBegun, aloneOf, rowOf, kindBegun, headBegun, valueBegun, within, firstValue};
 
 // How far a value stands in the bytes.
 pub enum Begun {
@@ -219,6 +219,31 @@ fn blob_begun(s: &[u8], at: usize) -> Begun
     }
 }
 
+// The same behind `$`: where its length has not begun, RESP2's null is the shortest.
+fn string_begun(s: &[u8], at: usize) -> Begun
+    requires { ⌜ length (now s) ≤ maxBytes ⌝ }
+    ensures { λ r. ⌜ r ≡ stringBegun (now (s .entry)) at ⌝ }
+{
+    if at >= s.len() {
+        return Begun::Lacks(4);
+    }
+    blob_begun(s, at)
+}
+
+// The rest of that null behind its minus: 1, CR LF.
+fn one_begun(s: &[u8], at: usize) -> Begun
+    requires { ⌜ length (now s) ≤ maxBytes ⌝ }
+    ensures { λ r. ⌜ r ≡ oneBegun (now (s .entry)) at ⌝ }
+{
+    if at >= s.len() {
+        return Begun::Lacks(3);
+    }
+    if s[at] != b'1' {
+        return Begun::Never;
+    }
+    crlf_begun(s, at + 1)
+}
+
 // The bytes of a verbatim string of length n: at least four, the fourth a colon; CR LF.
 fn verbatim_body(s: &[u8], n: u64, e: usize) -> Begun
     requires { ⌜ (length (now s) ≤ maxBytes) × (n ≤ maxBytes) × (e ≤ length (now s)) ⌝ }
@@ -364,10 +389,10 @@ fn row_begun(s: &[u8], at: usize, depth: usize, per: u64, more: u64) -> Opened
     }
 }
 
-// What stands at `at`, up to the first value inside it, which nests at most depth deep.
-fn head_begun(s: &[u8], at: usize, depth: usize) -> Opened
+// What stands at `at`, up to the first value inside it, which nests at most depth deep, by the kind of its first byte.
+fn kind_begun(s: &[u8], at: usize, depth: usize) -> Opened
     requires { ⌜ length (now s) ≤ maxBytes ⌝ }
-    ensures { λ r. ⌜ r ≡ headBegun depth (now (s .entry)) at ⌝ }
+    ensures { λ r. ⌜ r ≡ kindBegun depth (now (s .entry)) at ⌝ }
 {
     if at >= s.len() {
         return Opened::Lacks(3);
@@ -375,7 +400,7 @@ fn head_begun(s: &[u8], at: usize, depth: usize) -> Opened
     let p = at + 1;
     let kind = resp3::kind_of(s[at]);
     match kind {
-        Kind::BlobString => alone(blob_begun(s, p)),
+        Kind::BlobString => alone(string_begun(s, p)),
         Kind::SimpleString => alone(line_begun(s, p)),
         Kind::SimpleError => alone(line_begun(s, p)),
         Kind::Number => alone(integer_begun(s, p)),
@@ -392,6 +417,17 @@ fn head_begun(s: &[u8], at: usize, depth: usize) -> Opened
         Kind::Push => row_begun(s, p, depth, 1, 0),
         Kind::Unknown => Opened::Never,
     }
+}
+
+// The same with RESP2's nulls, which an old server sends.
+fn head_begun(s: &[u8], at: usize, depth: usize) -> Opened
+    requires { ⌜ length (now s) ≤ maxBytes ⌝ }
+    ensures { λ r. ⌜ r ≡ headBegun depth (now (s .entry)) at ⌝ }
+{
+    if resp3::null_word_at(s, at) {
+        return alone(one_begun(s, at + 2));
+    }
+    kind_begun(s, at, depth)
 }
 
 // The value at `at`, nesting at most depth deep.

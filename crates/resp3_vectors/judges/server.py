@@ -1,5 +1,5 @@
 #!/usr/bin/env python3
-"""Asks a redis-server (its path is the argument; Debian's package redis-server has one) for its own RESP3 bytes, and says whether each answer is one of the
+"""Asks a redis-server (its path is the argument; Debian's package redis-server has one) for its own bytes, in RESP3 and in RESP2, and says whether each answer is one of the
 vectors in ../stdin. Prints those that are not, and how many are."""
 import os, socket, subprocess, sys, tempfile, time
 
@@ -56,6 +56,23 @@ with tempfile.TemporaryDirectory() as folder:
         for words in ("HSET h f v", "SADD s x", "ZADD z 1.5 m", "ZADD z inf n", "SET a 1"):
             ask(a, *words.split())
         said += [ask(a, *w.split()) for w in ("HGETALL h", "SMEMBERS s", "ZSCORE z m", "ZSCORE z n", "LPUSH a x")]
+        # RESP2, which a connection speaks that asks for nothing else: its nulls, and what a second connection is told
+        c, d = connect(path), connect(path)
+        ask(c, "CLIENT", "TRACKING", "ON", "REDIRECT", ask(d, "CLIENT", "ID")[1:-2].decode())
+        ask(d, "SUBSCRIBE", "__redis__:invalidate")
+        said += [ask(c, *w.split()) for w in ("GET absent", "MGET a absent", "BLPOP absent 0.01")]
+        ask(b, "SET", "a", "2")
+        said.append(received(d))
+        ask(c, "GET", "a")
+        ask(b, "FLUSHALL")
+        said.append(received(d))
+        ask(c, "WATCH", "a")
+        ask(b, "SET", "a", "3")
+        ask(c, "MULTI")
+        said.append(ask(c, "EXEC"))
+        ask(c, "MULTI")
+        ask(c, "GET", "absent")
+        said.append(ask(c, "EXEC"))
     finally:
         server.terminate()
         server.wait()

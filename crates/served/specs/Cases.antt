@@ -11,7 +11,8 @@ use Rattle.decimal.specs.Digits.{digits}
 use Rattle.decimal.specs.Read.{crlfB, endedDef, finDef, numDef}
 use Rattle.resp3.specs.Kinds.{kindOf}
 use Rattle.resp3.specs.Value.{plainB, encode}
-use Rattle.resp3.specs.Ends.{lengthAt, crlfEnd, plain, lineEnd, blobEnd, verbatimEnd, numberEnd, booleanEnd, iter, bodyHead, headAt, valueEnd, isValue}
+use Rattle.resp3.specs.Ends.{lengthAt, crlfEnd, plain, lineEnd, blobEnd, verbatimEnd, numberEnd, booleanEnd, iter, bodyHead}
+use Rattle.resp3.specs.Ends.{nullWordB, oneEnd, kindHead, headAt, valueEnd, isValue}
 use Rattle.resp3.specs.Decode as resp
 use Rattle.arena.specs.Decode.{every}
 use Rattle.planning.specs.Plan.{plan-defs}
@@ -25,9 +26,9 @@ use Rattle.served.specs.Served.{servedAnswers, servedFrom, bufferFrom, s
 -- one name that opens the whole call
 unfoldable case-defs : Unit {0}
 unfolding same le readLe part put digits crlfB endedDef finDef numDef kindOf plainB encode lengthAt crlfEnd plain lineEnd blobEnd verbatimEnd numberEnd
-    booleanEnd iter bodyHead headAt valueEnd isValue resp.bytesAt resp.lineAt resp.integerAt resp.valuesAt resp.bodyOf resp.iterOf resp.valueOf resp.decode
-    every plan-defs order-defs decode-defs valueAt placeAt valuesAt placesAt commandsOf planRead resultBytes servedAnswers servedFrom bufferFrom servedOf
-    bufferOf
+    booleanEnd iter bodyHead headAt kindHead oneEnd nullWordB valueEnd isValue resp.bytesAt resp.lineAt resp.integerAt resp.valuesAt resp.bodyOf resp.iterOf
+    resp.valueOf resp.decode every plan-defs order-defs decode-defs valueAt placeAt valuesAt placesAt commandsOf planRead resultBytes servedAnswers servedFrom
+    bufferFrom servedOf bufferOf
 case-defs = tt
 
 -- a plan's head, and a node of a kind with a number and a part

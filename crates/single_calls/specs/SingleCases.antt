@@ -12,7 +12,7 @@ use Rattle.buffer.specs.Ascii.{ascii}
 use Rattle.config.specs.Config.{checked, refused, settingsOf}
 use Rattle.decimal.specs.Read.{crlfB, endedDef, finDef, numDef}
 use Rattle.resp3.specs.Kinds.{kindOf}
-use Rattle.resp3.specs.Ends.{lengthAt, crlfEnd, blobEnd, iter, bodyHead, headAt, valueEnd, isValue}
+use Rattle.resp3.specs.Ends.{lengthAt, crlfEnd, blobEnd, iter, bodyHead, nullWordB, oneEnd, kindHead, headAt, valueEnd, isValue}
 use Rattle.siphash.specs.Sip.{rotated, sipRound, rounds, initial, compressed, absorbed, lastWord, finished, sipHash}
 use Rattle.book.specs.Book.{Keyed, lookup, store, invalidate, plus, book-defs}
 use Rattle.book.specs.Calls.{ons, call-defs}
@@ -31,8 +31,8 @@ unfoldable single-defs : Unit {0}
 unfolding
     book-defs call-defs ons le readLe part head itemHead encEntry encEntries encItem encItems encShard encShards encode readEntry readEntries readItem readItems
     readShard readArena every distinctKeys distinctCommands mayStore itemFits itemFine rowFine rowsFine isImage decode lend setupOf checked refused settingsOf
-    crlfB endedDef finDef numDef kindOf lengthAt crlfEnd blobEnd iter bodyHead headAt valueEnd isValue rotated sipRound rounds initial compressed absorbed
-    lastWord finished sipHash overlong wrongBytes numberOf servedBy calledOn imaged onRows entered singleCall
+    crlfB endedDef finDef numDef kindOf lengthAt crlfEnd blobEnd iter bodyHead headAt kindHead oneEnd nullWordB valueEnd isValue rotated sipRound rounds initial
+    compressed absorbed lastWord finished sipHash overlong wrongBytes numberOf servedBy calledOn imaged onRows entered singleCall
 single-defs = tt
 
 -- a fresh cache of n bytes, and one whose last byte is free and not zero

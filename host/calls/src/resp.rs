@@ -1,12 +1,24 @@
-//! RESP3 values: the fifteen kinds of rule V1 of docs/BEHAVIOUR.md, nothing streamed, no RESP2 nulls.
+//! RESP3 values: the fifteen kinds of rule V1 of docs/BEHAVIOUR.md, nothing streamed, and RESP2's two nulls.
 //!
-//! Lengths and integers are canonical, so a value has exactly one spelling and writing what was read gives the same bytes.
+//! Lengths and integers are canonical, and a null says which of the three ways it is written in, so that writing what was read
+//! gives the same bytes.
 
 /// The most bytes that one value may have.
 pub const MOST_BYTES: usize = 16 << 20;
 
 /// The deepest nesting that is read, the outermost value counting 1.
 pub const MOST_DEEP: usize = 16;
+
+/// How a null is written.
+#[derive(Clone, Copy, Debug, PartialEq, Eq)]
+pub enum Spelling {
+    /// `_`: RESP3's.
+    Underscore,
+    /// `$-1`: RESP2's where a blob string is absent. It is no blob string.
+    Blob,
+    /// `*-1`: RESP2's where an array is absent. It is no array.
+    Array,
+}
 
 /// One RESP3 value.
 #[derive(Clone, Debug, PartialEq, Eq)]
@@ -19,8 +31,8 @@ pub enum Value {
     Error(Vec<u8>),
     /// `:`: an integer.
     Integer(i64),
-    /// `_`: null.
-    Null,
+    /// `_`, `$-1` or `*-1`: null, as it is written.
+    Null(Spelling),
     /// `,`: a double, its body not interpreted.
     Double(Vec<u8>),
     /// `#`: a boolean.
@@ -63,6 +75,7 @@ impl<'a> Reader<'a> {
         let (&kind, rest) = self.rest.split_first()?;
         self.rest = rest;
         Some(match kind {
+            b'$' if self.absent() => Value::Null(Spelling::Blob),
             b'$' => Value::Blob(self.blob()?),
             b'!' => Value::BlobError(self.blob()?),
             b'=' => Value::Verbatim(self.blob().filter(|b| b.get(3) == Some(&b':'))?),
@@ -71,12 +84,16 @@ impl<'a> Reader<'a> {
             b',' => Value::Double(self.line()?.to_vec()),
             b'(' => Value::BigNumber(self.line()?.to_vec()),
             b':' => Value::Integer(integer(self.line()?)?),
-            b'_' => self.line()?.is_empty().then_some(Value::Null)?,
+            b'_' => {
+                let null = Value::Null(Spelling::Underscore);
+                self.line()?.is_empty().then_some(null)?
+            }
             b'#' => match self.line()? {
                 b"t" => Value::Boolean(true),
                 b"f" => Value::Boolean(false),
                 _ => return None,
             },
+            b'*' if self.absent() => Value::Null(Spelling::Array),
             b'*' => Value::Array(self.values(below)?),
             b'~' => Value::Set(self.values(below)?),
             b'>' => Value::Push(self.values(below)?),
@@ -87,6 +104,13 @@ impl<'a> Reader<'a> {
             }
             _ => return None,
         })
+    }
+
+    /// Whether RESP2's mark of what is absent comes next; it is then read.
+    fn absent(&mut self) -> bool {
+        let rest = self.rest.strip_prefix(b"-1\r\n");
+        self.rest = rest.unwrap_or(self.rest);
+        rest.is_some()
     }
 
     /// The bytes up to the next CR LF, which hold neither CR nor LF.
@@ -159,7 +183,9 @@ pub fn write(out: &mut Vec<u8>, value: &Value) {
         Value::Double(b) => line(out, b',', b),
         Value::BigNumber(b) => line(out, b'(', b),
         Value::Integer(n) => line(out, b':', n.to_string().as_bytes()),
-        Value::Null => line(out, b'_', b""),
+        Value::Null(Spelling::Underscore) => line(out, b'_', b""),
+        Value::Null(Spelling::Blob) => line(out, b'$', b"-1"),
+        Value::Null(Spelling::Array) => line(out, b'*', b"-1"),
         Value::Boolean(b) => line(out, b'#', if *b { b"t" } else { b"f" }),
         Value::Array(list) => values(out, b'*', list),
         Value::Set(list) => values(out, b'~', list),
@@ -203,7 +229,7 @@ fn pairs(out: &mut Vec<u8>, kind: u8, list: &[(Value, Value)]) {
 mod tests {
     use super::*;
 
-    /// Values of every kind, each in its one spelling.
+    /// Values of every kind, null in each of its spellings.
     const RIGHT: &[&str] = &[
         "$0\r\n\r\n",
         "$3\r\na\r\n\r\n",
@@ -215,6 +241,8 @@ mod tests {
         ":9223372036854775807\r\n",
         ":-9223372036854775808\r\n",
         "_\r\n",
+        "$-1\r\n",
+        "*-1\r\n",
         ",1.5\r\n",
         ",\r\n",
         "#t\r\n",
@@ -231,14 +259,36 @@ mod tests {
         "|1\r\n+a\r\n+b\r\n*1\r\n:1\r\n",
         ">0\r\n",
         ">2\r\n$10\r\ninvalidate\r\n_\r\n",
+        ">2\r\n$10\r\ninvalidate\r\n$-1\r\n",
+        ">2\r\n$10\r\ninvalidate\r\n*-1\r\n",
         "*1\r\n>1\r\n|0\r\n_\r\n",
+        "*3\r\n$-1\r\n_\r\n*-1\r\n",
+        "%1\r\n$-1\r\n*-1\r\n",
+        "~1\r\n*1\r\n*-1\r\n",
+        "|1\r\n*-1\r\n_\r\n$-1\r\n",
     ];
 
     const WRONG: &[&str] = &[
         "",
         "$",
-        "$-1\r\n",
-        "*-1\r\n",
+        "$-1\r\n\r\n",
+        "$-2\r\n",
+        "$-0\r\n",
+        "$-01\r\n",
+        "$-1\n",
+        "$-\r\n",
+        "*-1",
+        "*-0\r\n",
+        "*-2\r\n",
+        "*-10\r\n",
+        "~-1\r\n",
+        "%-1\r\n",
+        "|-1\r\n",
+        "|-1\r\n:1\r\n",
+        ">-1\r\n",
+        "!-1\r\n",
+        "=-1\r\n",
+        "_-1\r\n",
         "$1\r\n\r\n",
         "$1\r\nab\r\n",
         "$01\r\na\r\n",
@@ -296,15 +346,26 @@ mod tests {
         }
     }
 
-    fn nested(head: &str, times: usize) -> Vec<u8> {
-        (head.repeat(times) + "_\r\n").into_bytes()
+    /// The three nulls are told apart, and are no other kind.
+    #[test]
+    fn a_null_keeps_its_spelling() {
+        let read = |text: &str| parse(text.as_bytes());
+        assert_eq!(read("_\r\n"), Some(Value::Null(Spelling::Underscore)));
+        assert_eq!(read("$-1\r\n"), Some(Value::Null(Spelling::Blob)));
+        assert_eq!(read("*-1\r\n"), Some(Value::Null(Spelling::Array)));
+    }
+
+    fn nested(head: &str, times: usize, null: &str) -> Vec<u8> {
+        (head.repeat(times) + null).into_bytes()
     }
 
     #[test]
     fn depth_16_is_read_and_17_refused() {
-        for head in ["*1\r\n", "|0\r\n", "~1\r\n", ">1\r\n", "%1\r\n_\r\n"] {
-            assert!(parse(&nested(head, 15)).is_some(), "{head:?}");
-            assert!(parse(&nested(head, 16)).is_none(), "{head:?}");
+        for head in ["*1\r\n", "|0\r\n", "~1\r\n", ">1\r\n", "%1\r\n*-1\r\n"] {
+            for null in ["_\r\n", "$-1\r\n", "*-1\r\n"] {
+                assert!(parse(&nested(head, 15, null)).is_some(), "{head:?}");
+                assert!(parse(&nested(head, 16, null)).is_none(), "{head:?}");
+            }
         }
     }
 

@@ -14,6 +14,7 @@ pub const SINGLE_EVENTS: &[&str] = &[
     "store",
     "invalidate",
     "hit",
+    "hit with RESP2's null",
     "miss",
     "dropped entries",
     "evicted or replaced",
@@ -31,6 +32,8 @@ pub const OTHER_EVENTS: &[&str] = &[
     "push",
     "new epoch",
     "refused stores",
+    "push of RESP2's null",
+    "replies with RESP2's null",
     "cause 2",
     "cause 4",
     "cause 5",
@@ -56,6 +59,7 @@ impl Coverage {
     pub fn count(&mut self, call: &Call, answer: &Answer, before: &State, after: &State) {
         self.add("calls", 1);
         self.add(kind(call), 1);
+        self.old_nulls(call, answer);
         match answer {
             Answer::Refused(refusal) => self.add(cause(refusal.cause), 1),
             Answer::Resolved { refused, .. } => self.add("refused stores", *refused),
@@ -94,6 +98,22 @@ impl Coverage {
         if matches!(call, Call::Store { .. } | Call::Resolve { .. }) {
             self.stores(before, after);
         }
+    }
+
+    /// RESP2's nulls, where they are served, taken or heard.
+    fn old_nulls(&mut self, call: &Call, answer: &Answer) {
+        let event = match (call, answer) {
+            (_, Answer::Hit(value)) if old_null(value) => "hit with RESP2's null",
+            (_, Answer::Planned { outcomes, .. }) if outcomes.iter().any(serves_old_null) => {
+                "hit with RESP2's null"
+            }
+            (Call::Push { bytes }, Answer::Done) if old_null(bytes) => "push of RESP2's null",
+            (Call::Resolve { replies, .. }, Answer::Resolved { .. }) if old_null(replies) => {
+                "replies with RESP2's null"
+            }
+            _ => return,
+        };
+        self.add(event, 1);
     }
 
     fn stores(&mut self, before: &State, after: &State) {
@@ -161,6 +181,23 @@ fn one_set(command: &Command) -> bool {
 
 fn among(names: &[&str], name: &[u8]) -> bool {
     names.iter().any(|known| known.as_bytes() == name)
+}
+
+/// Whether one of RESP2's nulls stands there.
+fn old_null(bytes: &[u8]) -> bool {
+    let mut parts = bytes.windows(5);
+    parts.any(|part| matches!(part, b"$-1\r\n" | b"*-1\r\n"))
+}
+
+fn serves_old_null(told: &Outcome) -> bool {
+    match told {
+        Outcome::Cached(value) => old_null(value),
+        Outcome::CachedAll(values) => values.iter().any(|value| old_null(value)),
+        Outcome::Multiple(places) => places
+            .iter()
+            .any(|place| matches!(place, Place::Served(value) if old_null(value))),
+        _ => false,
+    }
 }
 
 fn kind(call: &Call) -> &'static str {

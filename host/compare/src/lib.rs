@@ -6,6 +6,7 @@
 pub mod coverage;
 pub mod generate;
 pub mod guarded;
+pub mod one_nil;
 pub mod output;
 pub mod party;
 pub mod rng;

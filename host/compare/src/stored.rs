@@ -20,6 +20,7 @@ pub const STORED: &[(&str, &str)] = &[
         "refused_replies",
         include_str!("../stored/refused_replies.txt"),
     ),
+    ("old_nulls", include_str!("../stored/old_nulls.txt")),
 ];
 
 /// What a party answers to a transcript's calls: the transcript again, with its comments, as this party would have it.

@@ -31,6 +31,9 @@ fn changed_pushes_are_refused_as_6_or_are_others() {
     for push in [
         ">2\r\n$10\r\ninvalidate\r\n*4\r\n$1\r\na\r\n+b\r\n*1\r\n$1\r\nb\r\n$0\r\n\r\n",
         ">2\r\n$10\r\ninvalidate\r\n_\r\n",
+        ">2\r\n$10\r\ninvalidate\r\n$-1\r\n",
+        ">2\r\n$10\r\ninvalidate\r\n*-1\r\n",
+        ">2\r\n$10\r\ninvalidate\r\n*3\r\n$-1\r\n$1\r\na\r\n*-1\r\n",
         ">3\r\n$10\r\ninvalidate\r\n*1\r\n$1\r\nb\r\n_\r\n",
         ">0\r\n",
         "|1\r\n+a\r\n+b\r\n>2\r\n$10\r\ninvalidate\r\n_\r\n",

@@ -3,6 +3,7 @@
 use calls::{Answer, At, Call, Command, Outcome, Setup, State, record};
 use compare::coverage::{self, Coverage};
 use compare::generate::{Limits, Sequence};
+use compare::one_nil;
 use compare::party::Party;
 use compare::text::read;
 use model::Model;
@@ -28,6 +29,10 @@ enum Fault {
     RefusedStoresUntold,
     KeepsWhatIsPushed,
     OffsetOneOn,
+    OldNullIsEmptyArray,
+    OldNullIsEmptyBlob,
+    OldNullIsNotHeard,
+    SpellsNullsAnew,
 }
 
 impl Party for Wrong {
@@ -50,6 +55,18 @@ impl Party for Wrong {
             && calls::resp::parse(bytes).is_some()
         {
             *bytes = b">0\r\n".to_vec();
+        }
+        match (self.fault, &mut call) {
+            (Fault::OldNullIsEmptyArray, Call::Resolve { replies, .. }) => {
+                *replies = instead(replies, "*-1\r\n", "*0\r\n");
+            }
+            (Fault::OldNullIsEmptyBlob, Call::Push { bytes }) => {
+                *bytes = instead(bytes, "$-1\r\n", "$0\r\n\r\n");
+            }
+            (Fault::OldNullIsNotHeard, Call::Push { bytes }) => {
+                *bytes = instead(bytes, "invalidate\r\n$-1\r\n", "invalidate\r\n+\r\n");
+            }
+            _ => {}
         }
         let mut answer = self.model.call(at, &call);
         match (self.fault, &mut answer) {
@@ -78,6 +95,7 @@ impl Party for Wrong {
                     }
                 }
             }
+            (Fault::SpellsNullsAnew, _) => answer = one_nil::answer(answer),
             (Fault::RefusedStoresUntold, Answer::Resolved { refused, .. }) => *refused = 0,
             (Fault::OffsetOneOn, Answer::Refused(refusal)) => {
                 refusal.offset = refusal.offset.map(|offset| offset + 1);
@@ -98,6 +116,12 @@ impl Party for Wrong {
     }
 }
 
+/// The bytes with one text in the place of another.
+fn instead(bytes: &[u8], this: &str, that: &str) -> Vec<u8> {
+    let text = String::from_utf8_lossy(bytes);
+    text.replace(this, that).into_bytes()
+}
+
 /// The commands of a planning that was not refused.
 fn planned(call: &Call) -> Vec<Command> {
     let Call::Plan { record, .. } = call else {
@@ -111,10 +135,10 @@ fn wrong(setup: &Setup, fault: Fault) -> Vec<Box<dyn Party>> {
     vec![Box::new(Wrong { model, fault })]
 }
 
-/// The fewest calls that a failure is brought down to, of the first three sequences that show one: which calls they have is chance.
+/// The fewest calls that a failure is brought down to, of the first five sequences that show one: which calls they have is chance.
 fn failure(followers: fn(&Setup) -> Vec<Box<dyn Party>>) -> usize {
     let failures = (1..=100).filter_map(|seed| failure_of(seed, followers));
-    let fewest = failures.take(3).min();
+    let fewest = failures.take(5).min();
     fewest.expect("a sequence that shows the fault")
 }
 
@@ -149,6 +173,10 @@ fn a_wrong_party_is_noticed_with_few_calls() {
         failure(|setup| wrong(setup, Fault::RefusedStoresUntold)),
         failure(|setup| wrong(setup, Fault::KeepsWhatIsPushed)),
         failure(|setup| wrong(setup, Fault::OffsetOneOn)),
+        failure(|setup| wrong(setup, Fault::OldNullIsEmptyArray)),
+        failure(|setup| wrong(setup, Fault::OldNullIsEmptyBlob)),
+        failure(|setup| wrong(setup, Fault::OldNullIsNotHeard)),
+        failure(|setup| wrong(setup, Fault::SpellsNullsAnew)),
     ];
     assert!(calls.iter().all(|&count| count <= 4), "{calls:?}");
     assert_eq!((calls[1], calls[5]), (1, 1));

@@ -1,17 +1,15 @@
-//! The connection that is read through the cache.
+//! What is read through the cache.
 
-use crate::options::By;
+use crate::options::{By, Resp};
 use crate::traps::{TRAPS, key, trap_of};
+use crate::wire::{Arrived, Wire};
 use redis_cache::{
     Cache, CacheConfig, CacheMode, CacheStatistics, Clock, CommandCacheConfig, Event, OwnedAnswer,
     OwnedValue, Pipeline, Stream, Value, pipe,
 };
-use std::io::{ErrorKind, Read, Write};
-use std::net::TcpStream;
-use std::thread::sleep;
 use std::time::{Duration, Instant};
 
-/// How long the server may be silent, or away, before the program gives up.
+/// How long the server may be silent before the program gives up.
 const PATIENCE: Duration = Duration::from_secs(60);
 
 /// What the server said on its own.
@@ -32,7 +30,7 @@ pub enum Source {
 
 pub struct Cached {
     address: String,
-    socket: TcpStream,
+    wire: Wire,
     stream: Stream,
     clock: Clock,
     mode: CacheMode,
@@ -41,12 +39,16 @@ pub struct Cached {
 }
 
 impl Cached {
-    pub fn connect(address: &str, mode: CacheMode, by: By) -> Result<Self, String> {
+    pub fn connect(address: &str, mode: CacheMode, by: By, resp: Resp) -> Result<Self, String> {
         let cache = Cache::new(CacheConfig::new().set_mode(mode)).map_err(|e| e.to_string())?;
+        let stream = match resp {
+            Resp::Two => Stream::resp2(cache),
+            Resp::Three => Stream::new(cache),
+        };
         Ok(Cached {
             address: address.into(),
-            socket: open(address)?,
-            stream: Stream::new(cache),
+            wire: Wire::open(address, &stream.subscribing())?,
+            stream,
             clock: Clock::new(),
             mode,
             by,
@@ -71,7 +73,7 @@ impl Cached {
         let call = self.call(traps);
         let began = Instant::now();
         'ask: loop {
-            self.write()?;
+            self.ready()?;
             let now = self.clock.now();
             let asked = self.stream.send(now, &call).map_err(|e| e.to_string())?;
             let sends = String::from_utf8_lossy(self.stream.to_send()).into_owned();
@@ -94,6 +96,22 @@ impl Cached {
                 }
             }
         }
+    }
+
+    /// Sends what there is to send, and waits as long as calls would be held back: it would not be seen what they ask the server for.
+    fn ready(&mut self) -> Result<(), String> {
+        let began = Instant::now();
+        self.write()?;
+        while self.stream.holds_back() {
+            match self.stream.next_event() {
+                Some(event) => self.event(event)?,
+                None if began.elapsed() > PATIENCE => {
+                    return Err("the server does not say that it will tell of changes".into());
+                }
+                None => self.receive(Duration::from_secs(1))?,
+            }
+        }
+        Ok(())
     }
 
     /// What asks for these traps.
@@ -164,54 +182,30 @@ impl Cached {
     /// Sends what there is to send, and takes in what arrives, waiting for it so long at most.
     fn receive(&mut self, time: Duration) -> Result<(), String> {
         self.write()?;
-        let time = time.max(Duration::from_millis(1));
-        self.socket
-            .set_read_timeout(Some(time))
-            .map_err(|e| e.to_string())?;
-        let mut bytes = [0; 4096];
-        match self.socket.read(&mut bytes) {
-            Ok(0) => self.reconnect(),
-            Ok(n) => {
-                self.stream.received(self.clock.now(), &bytes[..n]);
-                Ok(())
-            }
-            Err(e) if [ErrorKind::WouldBlock, ErrorKind::TimedOut].contains(&e.kind()) => Ok(()),
-            Err(e) if e.kind() == ErrorKind::Interrupted => Ok(()),
-            Err(_) => self.reconnect(),
+        match self.wire.arrived(time) {
+            Some(Arrived::Replies(bytes)) => self.stream.received(self.clock.now(), &bytes),
+            Some(Arrived::Invalidations(bytes)) => self.stream.invalidations(&bytes),
+            Some(Arrived::End) => self.reconnect()?,
+            None => {}
         }
+        Ok(())
     }
 
     fn write(&mut self) -> Result<(), String> {
         let bytes = self.stream.take_to_send();
-        match self.socket.write_all(&bytes) {
+        match self.wire.write(&bytes) {
             Ok(()) => Ok(()),
             Err(_) => self.reconnect(),
         }
     }
 
+    /// Connects anew; in RESP2 both connections, whichever was lost.
     fn reconnect(&mut self) -> Result<(), String> {
         self.stream.disconnected();
-        self.socket = open(&self.address)?;
+        self.wire = Wire::open(&self.address, &self.stream.subscribing())?;
         self.stream.reconnected();
         self.heard.push(Heard::Reconnected);
         Ok(())
-    }
-}
-
-fn open(address: &str) -> Result<TcpStream, String> {
-    let began = Instant::now();
-    loop {
-        match TcpStream::connect(address) {
-            Ok(socket) => {
-                socket.set_nodelay(true).map_err(|e| e.to_string())?;
-                return Ok(socket);
-            }
-            Err(e) if began.elapsed() > PATIENCE => {
-                return Err(format!("no server at {address}: {e}"));
-            }
-            Err(e) if e.kind() == ErrorKind::InvalidInput => return Err(format!("{address}: {e}")),
-            Err(_) => sleep(Duration::from_millis(100)),
-        }
     }
 }
 

@@ -10,11 +10,12 @@ mod page;
 mod screen;
 mod server;
 mod traps;
+mod wire;
 
 use book::{Book, Reading};
 use cached::{Cached, Heard, Source};
 use direct::Direct;
-use options::{Asked, Options};
+use options::{Asked, Options, Resp};
 use redis_cache::CacheMode;
 use screen::Screen;
 use server::Server;
@@ -67,10 +68,15 @@ fn run(options: &Options) -> Result<bool, String> {
         true => (CacheMode::OptIn, "opt-in"),
         false => (CacheMode::All, "all"),
     };
-    let title = format!("Moth traps on the Redis server at {address}, tracking mode {mode_name}");
+    let protocol = match options.resp {
+        Resp::Two => ", RESP2",
+        Resp::Three => "",
+    };
+    let title =
+        format!("Moth traps on the Redis server at {address}, tracking mode {mode_name}{protocol}");
     let plain = options.plain || !std::io::stdout().is_terminal();
     let mut desk = Desk {
-        cached: Cached::connect(&address, mode, options.by)?,
+        cached: Cached::connect(&address, mode, options.by, options.resp)?,
         direct,
         book: Book::new(),
         screen: Screen::new(plain, title.clone()),

@@ -16,12 +16,22 @@ pub enum By {
     Transaction,
 }
 
+/// The protocol of what is read through the cache.
+#[derive(Clone, Copy, Debug, PartialEq, Eq)]
+pub enum Resp {
+    /// RESP2, over two connections.
+    Two,
+    /// RESP3.
+    Three,
+}
+
 #[derive(Debug, PartialEq, Eq)]
 pub struct Options {
     pub address: Option<String>,
     pub time: Duration,
     pub opt_in: bool,
     pub by: By,
+    pub resp: Resp,
     pub plain: bool,
     pub page: PathBuf,
 }
@@ -39,6 +49,7 @@ pub fn parse(mut args: impl Iterator<Item = String>) -> Result<Asked, String> {
         time: Duration::from_secs(12),
         opt_in: false,
         by: By::Get,
+        resp: Resp::Three,
         plain: false,
         page: PathBuf::from("target/desk.html"),
     };
@@ -53,6 +64,7 @@ pub fn parse(mut args: impl Iterator<Item = String>) -> Result<Asked, String> {
             "--page" => options.page = PathBuf::from(value()?),
             "--opt-in" => options.opt_in = true,
             "--by" => options.by = by(&value()?)?,
+            "--resp" => options.resp = resp(&value()?)?,
             "--plain" => options.plain = true,
             "--help" | "-h" => return Ok(Asked::Help),
             other => return Err(format!("{other} is not known: see --help")),
@@ -69,6 +81,14 @@ fn by(text: &str) -> Result<By, String> {
         _ => Err(format!(
             "--by takes get, mget or transaction, and not {text}"
         )),
+    }
+}
+
+fn resp(text: &str) -> Result<Resp, String> {
+    match text {
+        "2" => Ok(Resp::Two),
+        "3" => Ok(Resp::Three),
+        _ => Err(format!("--resp takes 2 or 3, and not {text}")),
     }
 }
 
@@ -95,7 +115,11 @@ mod tests {
         };
         assert_eq!(options.time, Duration::from_secs(3));
         assert!(options.opt_in && options.plain && options.address.is_none());
-        assert_eq!(options.by, By::Mget);
+        assert_eq!((options.by, options.resp), (By::Mget, Resp::Three));
+        let Ok(Asked::Run(options)) = asked("--resp 2") else {
+            panic!("these are right")
+        };
+        assert_eq!(options.resp, Resp::Two);
         assert_eq!(asked("--help"), Ok(Asked::Help));
     }
 
@@ -108,6 +132,7 @@ mod tests {
                 "--by set",
                 "--by takes get, mget or transaction, and not set",
             ),
+            ("--resp 1", "--resp takes 2 or 3, and not 1"),
             ("--fast", "--fast is not known: see --help"),
         ] {
             assert_eq!(asked(line), Err(said.to_string()));

@@ -154,27 +154,78 @@ fn transactions_opt_in() {
     on_its_own("transactions-opt-in", &["--by", "transaction", "--opt-in"]);
 }
 
-/// Everything on the server is gone at once: the desk is told, and reads what there is then.
 #[test]
-fn flushall() {
-    let Some(server) = Server::start("flushall") else {
+fn resp2() {
+    on_its_own("resp2", &["--resp", "2"]);
+}
+
+#[test]
+fn resp2_several_keys_opt_in() {
+    let arguments = ["--resp", "2", "--by", "mget", "--opt-in"];
+    on_its_own("resp2-several-keys-opt-in", &arguments);
+}
+
+#[test]
+fn resp2_transactions() {
+    let arguments = ["--resp", "2", "--by", "transaction"];
+    on_its_own("resp2-transactions", &arguments);
+}
+
+/// Everything on the server is gone at once: the desk is told, and reads what there is then.
+fn flushed(name: &str, resp: &str) {
+    let Some(server) = Server::start(name) else {
         return;
     };
     let address = server.address();
-    let (said, _) = run("flushall", &["--address", &address], || server.flush());
+    let arguments = ["--address", &address, "--resp", resp];
+    let (said, _) = run(name, &arguments, || server.flush());
     assert!(fresh(&said).flushes > 0, "the flush was not told\n{said}");
 }
 
-/// The server is stopped, and another one, which knows nothing, takes its place: a new epoch, in which nothing of before is served.
 #[test]
-fn restart() {
-    let Some(server) = Server::start("restart") else {
+fn flushall() {
+    flushed("flushall", "3");
+}
+
+#[test]
+fn resp2_flushall() {
+    flushed("resp2-flushall", "2");
+}
+
+/// The server is stopped, and another one, which knows nothing, takes its place: a new epoch, in which nothing of before is served.
+fn restarted(name: &str, resp: &str) {
+    let Some(server) = Server::start(name) else {
         return;
     };
     let address = server.address();
     let mut server = Some(server);
-    let (said, _) = run("restart", &["--address", &address], || {
+    let arguments = ["--address", &address, "--resp", resp];
+    let (said, _) = run(name, &arguments, || {
         server = server.take().map(Server::again);
+    });
+    assert!(fresh(&said).reconnected > 0, "no new connection\n{said}");
+}
+
+#[test]
+fn restart() {
+    restarted("restart", "3");
+}
+
+#[test]
+fn resp2_restart() {
+    restarted("resp2-restart", "2");
+}
+
+/// The connection on which the server tells of changes is closed, and the other one is not: both are made anew.
+#[test]
+fn resp2_second_connection_closed() {
+    let Some(server) = Server::start("resp2-closed") else {
+        return;
+    };
+    let address = server.address();
+    let arguments = ["--address", &address, "--resp", "2"];
+    let (said, _) = run("resp2-closed", &arguments, || {
+        assert_eq!(server.ask("CLIENT KILL TYPE pubsub"), ":1");
     });
     assert!(fresh(&said).reconnected > 0, "no new connection\n{said}");
 }

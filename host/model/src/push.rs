@@ -12,7 +12,7 @@ pub enum Invalidated {
 }
 
 /// Reads a value as a push: `>`, its first element the blob `invalidate`, then an array of keys, of which only blobs are
-/// taken, or `_`. All else invalidates nothing.
+/// taken, or a null in any spelling. All else invalidates nothing.
 pub fn invalidated(value: &Value) -> Invalidated {
     let none = Invalidated::Keys(Vec::new());
     let Value::Push(elements) = value else {
@@ -21,7 +21,7 @@ pub fn invalidated(value: &Value) -> Invalidated {
     match elements.as_slice() {
         [Value::Blob(kind), what, ..] if kind == b"invalidate" => match what {
             Value::Array(keys) => Invalidated::Keys(keys.iter().filter_map(key).collect()),
-            Value::Null => Invalidated::All,
+            Value::Null(_) => Invalidated::All,
             _ => none,
         },
         _ => none,

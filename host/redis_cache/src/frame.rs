@@ -35,13 +35,14 @@ pub fn value_end(received: &[u8]) -> ValueEnd {
 #[cfg(test)]
 mod tests {
     use super::*;
-    use crate::testing::{RIGHT, WRONG, nested};
+    use crate::testing::{NULLS, RIGHT, WRONG, nested, old_nulls};
     use crate::value::MOST_BYTES;
 
     /// A value is complete where it ends, whatever follows; every cut of it needs more.
     #[test]
     fn right_values() {
-        for text in RIGHT {
+        let old = old_nulls().map(|(text, _)| text);
+        for text in old.chain(RIGHT.iter().map(|text| text.to_string())) {
             let bytes = text.as_bytes();
             assert_eq!(
                 value_end(bytes),
@@ -78,9 +79,12 @@ mod tests {
     #[test]
     fn depths() {
         for head in ["*1\r\n", "|0\r\n", "~1\r\n", ">1\r\n", "%1\r\n_\r\n"] {
-            let deepest = nested(head, 15);
-            assert_eq!(value_end(&deepest), ValueEnd::Complete(deepest.len()));
-            assert_eq!(value_end(&nested(head, 16)), ValueEnd::Wrong, "{head:?}");
+            for null in NULLS {
+                let deepest = nested(head, 15, null);
+                assert_eq!(value_end(&deepest), ValueEnd::Complete(deepest.len()));
+                let deeper = nested(head, 16, null);
+                assert_eq!(value_end(&deeper), ValueEnd::Wrong, "{head:?}");
+            }
         }
     }
 

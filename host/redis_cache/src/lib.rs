@@ -7,6 +7,7 @@
 //! | for | use |
 //! |---|---|
 //! | a cached connection over a socket of the host's | [`Stream`] |
+//! | the same with a server that speaks RESP2 | [`Stream::resp2`] |
 //! | a cache without a connection | [`Cache`] |
 //! | commands and pipelines | [`cmd()`], [`pipe`] |
 //! | answers | [`Answer::query`], [`Value`] |

@@ -1,13 +1,16 @@
 //! A connection without input or output of its own.
 
+mod incoming;
+mod second;
 mod tracking;
 
 pub use tracking::tracking_on;
 
-use crate::lent::{ValueEnd, value_end};
 use crate::{
     Cache, Call, Cause, Error, OwnedAnswer, OwnedValue, Plan, Replies, ServerError, Value,
 };
+use incoming::{Incoming, Next};
+use second::Second;
 use std::collections::VecDeque;
 use std::fmt;
 
@@ -46,9 +49,9 @@ pub enum Event {
     Refused(Ticket, Error),
     /// A call that was open when the connection was lost, or was made before the next one: it has no answer.
     Dropped(Ticket),
-    /// A push; where it is an `invalidate`, its keys are dropped already.
+    /// A push; where it is an `invalidate`, its keys are dropped already. In RESP2 what the second connection says, as a push.
     Push(OwnedValue),
-    /// The connection is to be taken as lost: close it, connect anew and call [`Stream::reconnected`].
+    /// The connection is to be taken as lost: close it, in RESP2 both of them, connect anew and call [`Stream::reconnected`].
     Lost(Lost),
 }
 
@@ -67,7 +70,7 @@ pub enum Event {
 pub enum Lost {
     /// Bytes that are no value of at most 16 MiB and 16 deep, or a push that was refused. Invalidations may be among them.
     Refused(Error),
-    /// The server refused `HELLO 3` or `CLIENT TRACKING`, so that no invalidations come.
+    /// The server refused `HELLO 3` or `CLIENT TRACKING`, or in RESP2 something on the second connection, so that no invalidations come.
     NotTracking(ServerError),
     /// A reply that nothing asked for.
     Unasked,
@@ -130,6 +133,7 @@ impl std::error::Error for NoAnswer {}
 ///
 /// - each reply is stored before a push behind it is handled, and after one before it;
 /// - a push between the replies of one call drops its keys at once, and once more when that call is stored;
+/// - in RESP2 ([`Stream::resp2`]) an invalidation, which may overtake replies, does so for each call that was open when it came;
 /// - the bytes of one call stay in one piece;
 /// - on a new connection nothing of the old one is served or stored.
 ///
@@ -175,16 +179,14 @@ impl std::error::Error for NoAnswer {}
 pub struct Stream {
     cache: Cache,
     auth: Option<(String, String)>,
-    /// Received, and not yet a whole value.
-    incoming: Vec<u8>,
-    /// How long it is to be before it is read again: as long as a value can be whole, or twice as long as it was.
-    needed: usize,
+    incoming: Incoming,
     outgoing: Vec<u8>,
-    /// How many responses to `HELLO` and `CLIENT TRACKING` are still to come.
+    /// In RESP2, the connection on which invalidations come.
+    second: Option<Second>,
+    /// How many responses to what a connection begins with are still to come.
     greetings: usize,
     open: VecDeque<Open>,
-    /// Pushes that came between the replies of the oldest open call.
-    between: Vec<Vec<u8>>,
+    again: Vec<Again>,
     events: VecDeque<Event>,
     tickets: u64,
     lost: bool,
@@ -200,6 +202,13 @@ struct Open {
     begun: bool,
 }
 
+/// A push that is to be done again behind each open call up to this one: what was read before it may be among their replies.
+#[derive(Debug)]
+struct Again {
+    push: Vec<u8>,
+    until: Ticket,
+}
+
 impl Stream {
     /// A stream for a connection just made. The first bytes to send are those of [`tracking_on`].
     ///
@@ -211,7 +220,7 @@ impl Stream {
     /// # Ok::<(), redis_cache::Error>(())
     /// ```
     pub fn new(cache: Cache) -> Self {
-        Self::greeting(cache, None)
+        Self::greeting(cache, None, None)
     }
 
     /// A stream that logs in on every connection.
@@ -225,19 +234,19 @@ impl Stream {
     /// # Ok::<(), redis_cache::Error>(())
     /// ```
     pub fn with_auth(cache: Cache, username: &str, password: &str) -> Self {
-        Self::greeting(cache, Some((username.into(), password.into())))
+        Self::greeting(cache, Some((username.into(), password.into())), None)
     }
 
-    fn greeting(cache: Cache, auth: Option<(String, String)>) -> Self {
+    fn greeting(cache: Cache, auth: Option<(String, String)>, second: Option<Second>) -> Self {
         let mut stream = Stream {
             cache,
             auth,
-            incoming: Vec::new(),
-            needed: 0,
+            incoming: Incoming::default(),
             outgoing: Vec::new(),
+            second,
             greetings: 0,
             open: VecDeque::new(),
-            between: Vec::new(),
+            again: Vec::new(),
             events: VecDeque::new(),
             tickets: 0,
             lost: false,
@@ -269,7 +278,7 @@ impl Stream {
         }
         let plan = self.cache.plan(clock, call)?;
         self.tickets += 1;
-        self.outgoing.extend_from_slice(plan.send());
+        self.calls_out().extend_from_slice(plan.send());
         let replies = plan.replies();
         let open = Open {
             ticket,
@@ -345,31 +354,9 @@ impl Stream {
         if self.lost {
             return;
         }
-        self.incoming.extend_from_slice(bytes);
-        // A long list that comes in small pieces is not read again for each of them.
-        if self.incoming.len() < self.needed {
-            return;
-        }
         let mut incoming = std::mem::take(&mut self.incoming);
-        let mut at = 0;
-        while !self.lost {
-            match value_end(&incoming[at..]) {
-                ValueEnd::Complete(length) => {
-                    self.value(clock, &incoming[at..at + length]);
-                    at += length;
-                }
-                ValueEnd::More(lacking) => {
-                    let rest = incoming.len() - at;
-                    self.needed = (rest + lacking).min(2 * rest);
-                    break;
-                }
-                ValueEnd::Wrong => self.lose(Lost::Refused(Error::of(Cause::BadReply))),
-            }
-        }
-        if !self.lost {
-            incoming.drain(..at);
-            self.incoming = incoming;
-        }
+        incoming.add(bytes);
+        self.incoming = self.each(incoming, |stream, value| stream.value(clock, value));
     }
 
     /// The next event, in the order in which they came about.
@@ -411,7 +398,7 @@ impl Stream {
         }
     }
 
-    /// The connection is gone. Open calls are dropped, and until [`Stream::reconnected`] so is every call: what is kept may have
+    /// The connection is gone, or in RESP2 one of the two. Open calls are dropped, and until [`Stream::reconnected`] so is every call: what is kept may have
     /// been invalidated unheard.
     ///
     /// ```
@@ -425,17 +412,17 @@ impl Stream {
     /// ```
     pub fn disconnected(&mut self) {
         self.lost = true;
-        self.incoming.clear();
-        self.needed = 0;
+        self.incoming = Incoming::default();
         self.outgoing.clear();
-        self.between.clear();
+        self.second = self.second.is_some().then(Second::new);
+        self.again.clear();
         self.greetings = 0;
         for open in self.open.drain(..) {
             self.events.push_back(Event::Dropped(open.ticket));
         }
     }
 
-    /// There is a new connection: open calls are dropped, a new epoch is taken, and tracking is asked for again.
+    /// There is a new connection, or in RESP2 two: open calls are dropped, a new epoch is taken, and tracking is asked for again.
     ///
     /// ```
     /// use redis_cache::{Cache, CacheConfig, Stream};
@@ -465,19 +452,45 @@ impl Stream {
         &self.cache
     }
 
-    /// Asks for RESP3 and tracking.
-    fn greet(&mut self) {
+    fn auth(&self) -> tracking::Auth<'_> {
         let auth = self.auth.as_ref();
-        let auth = auth.map(|(username, password)| (username.as_str(), password.as_str()));
-        let (bytes, responses) = tracking::greeting(self.cache.config().mode(), auth);
-        self.outgoing = bytes;
-        self.greetings = responses;
+        auth.map(|(username, password)| (username.as_str(), password.as_str()))
+    }
+
+    /// Asks for RESP3 and tracking; in RESP2 that has to wait until the second connection listens.
+    fn greet(&mut self) {
+        let mode = self.cache.config().mode();
+        // How many responses there will be does not hang on the second connection's number, which is not known yet.
+        (self.outgoing, self.greetings) = match self.second {
+            None => tracking::greeting(mode, self.auth()),
+            Some(_) => (Vec::new(), tracking::redirected(mode, self.auth(), 0).1),
+        };
+    }
+
+    /// Where the bytes of calls go.
+    fn calls_out(&mut self) -> &mut Vec<u8> {
+        let held = self.second.as_mut().and_then(|second| second.held.as_mut());
+        held.unwrap_or(&mut self.outgoing)
+    }
+
+    /// Hands on each value that is whole, as long as the connection is not lost; tells what is left of the bytes.
+    fn each(&mut self, mut incoming: Incoming, take: impl Fn(&mut Self, &[u8])) -> Incoming {
+        while !self.lost {
+            match incoming.next() {
+                Next::Value(value) => take(self, value),
+                Next::More => return incoming,
+                Next::Wrong => self.lose(Lost::Refused(Error::of(Cause::BadReply))),
+            }
+        }
+        Incoming::default()
     }
 
     /// One value of the stream.
     fn value(&mut self, clock: u64, value: &[u8]) {
         if value.first() == Some(&b'>') {
-            self.push(value);
+            // Where the oldest call has some of its replies, they may be older than the push, and are stored only later.
+            let begun = self.open.front().filter(|open| open.begun);
+            self.push(value, begun.map(|open| open.ticket));
         } else if self.greetings > 0 {
             self.greetings -= 1;
             if let Some(Value::ServerError(error)) = Value::parse(value) {
@@ -494,15 +507,16 @@ impl Stream {
         }
     }
 
-    /// A push drops its keys. Where the oldest call has some of its replies, they may be older than the push, and are stored only
-    /// later: then it is kept, to be done again behind them.
-    fn push(&mut self, push: &[u8]) {
+    /// A push drops its keys. Where open calls, up to this one, may store what is older, it is kept, to be done again behind each of them.
+    fn push(&mut self, push: &[u8], until: Option<Ticket>) {
         if let Err(error) = self.cache.on_push(push) {
             return self.lose(Lost::Refused(error));
         }
-        if self.open.front().is_some_and(|open| open.begun) {
-            self.between.push(push.to_vec());
-        }
+        let again = |until| Again {
+            push: push.to_vec(),
+            until,
+        };
+        self.again.extend(until.map(again));
         if let Some(value) = Value::parse(push) {
             self.events.push_back(Event::Push(value.into_owned()));
         }
@@ -510,14 +524,16 @@ impl Stream {
 
     /// The oldest call has all its replies.
     fn answered(&mut self, clock: u64) {
-        if let Some(open) = self.open.pop_front() {
-            self.resolve(clock, &open);
-        }
-        for push in std::mem::take(&mut self.between) {
-            if let Err(error) = self.cache.on_push(&push) {
+        let Some(open) = self.open.pop_front() else {
+            return;
+        };
+        self.resolve(clock, &open);
+        for again in &self.again {
+            if let Err(error) = self.cache.on_push(&again.push) {
                 return self.lose(Lost::Refused(error));
             }
         }
+        self.again.retain(|again| again.until > open.ticket);
     }
 
     fn resolve(&mut self, clock: u64, open: &Open) {

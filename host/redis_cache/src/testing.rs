@@ -1,4 +1,7 @@
-//! Values for the tests: right ones of every kind, each in its one spelling, and wrong ones.
+//! Values for the tests: right ones of every kind, null in RESP3's spelling and in RESP2's two, and wrong ones.
+
+/// Null in each of its spellings, RESP3's first.
+pub(crate) const NULLS: [&str; 3] = ["_\r\n", "$-1\r\n", "*-1\r\n"];
 
 pub(crate) const RIGHT: &[&str] = &[
     "$0\r\n\r\n",
@@ -28,12 +31,37 @@ pub(crate) const RIGHT: &[&str] = &[
     ">0\r\n",
     ">2\r\n$10\r\ninvalidate\r\n_\r\n",
     "*1\r\n>1\r\n|0\r\n_\r\n",
+    "*2\r\n_\r\n_\r\n",
+    "%1\r\n_\r\n*1\r\n_\r\n",
+    "|1\r\n_\r\n_\r\n_\r\n",
 ];
+
+/// The right values in which nulls stand, with each spelling of RESP2's in their place, and beside it as they were.
+pub(crate) fn old_nulls() -> impl Iterator<Item = (String, String)> {
+    let with = RIGHT.iter().filter(|text| text.contains(NULLS[0]));
+    with.flat_map(|text| {
+        let spelled = |null: &&str| (text.replace(NULLS[0], null), text.to_string());
+        NULLS[1..].iter().map(spelled)
+    })
+}
 
 /// No value, and no value begins so.
 pub(crate) const WRONG: &[&str] = &[
-    "$-1\r\n",
-    "*-1\r\n",
+    "$-2\r\n",
+    "$-0\r\n",
+    "$-01\r\n",
+    "$-1\n",
+    "$-\r\n",
+    "*-0\r\n",
+    "*-2\r\n",
+    "*-10\r\n",
+    "~-1\r\n",
+    "%-1\r\n",
+    "|-1\r\n",
+    ">-1\r\n",
+    "!-1\r\n",
+    "=-1\r\n",
+    "_-1\r\n",
     "$1\r\nab\r\n",
     "$01\r\na\r\n",
     "$+1\r\na\r\n",
@@ -61,6 +89,6 @@ pub(crate) const WRONG: &[&str] = &[
 ];
 
 /// A null inside so many heads.
-pub(crate) fn nested(head: &str, times: usize) -> Vec<u8> {
-    (head.repeat(times) + "_\r\n").into_bytes()
+pub(crate) fn nested(head: &str, times: usize, null: &str) -> Vec<u8> {
+    (head.repeat(times) + null).into_bytes()
 }

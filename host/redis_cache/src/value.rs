@@ -1,4 +1,4 @@
-//! RESP3 values, read from bytes that the library or the server wrote.
+//! RESP3 values, and RESP2's two nulls, read from bytes that the library or the server wrote.
 
 mod convert;
 mod read;
@@ -14,17 +14,19 @@ use std::fmt;
 /// Bytes of a value: a part of what was read, or its own.
 type Bytes<'a> = Cow<'a, [u8]>;
 
-/// A RESP3 value. One that was just read borrows its bytes; [`Value::into_owned`] makes one that keeps them.
+/// A RESP3 value. One that was just read borrows its bytes; [`Value::into_owned`] makes one that keeps them. What a server says in RESP2 is read too, since
+/// all but its nulls is the same: those are `$-1` and `*-1`, and are read as null.
 ///
 /// ```
 /// use redis_cache::Value;
 ///
 /// let value = Value::parse(b"*2\r\n:12\r\n_\r\n").expect("a value");
 /// assert_eq!(value, Value::Array(vec![Value::Int(12), Value::Nil]));
+/// assert_eq!(Value::parse(b"$-1\r\n"), Some(Value::Nil));
 /// ```
 #[derive(Clone, Debug, PartialEq, Eq)]
 pub enum Value<'a> {
-    /// `_`: null.
+    /// `_`, or RESP2's `$-1` or `*-1`: null.
     Nil,
     /// `:`: an integer.
     Int(i64),

@@ -117,9 +117,11 @@ fn a_refused_transaction_says_why() {
             .for_each(|response| replies.add(response.as_bytes()));
         cache.resolve(0, &plan, &replies).expect_err("refused")
     };
-    let null = refused(["+OK\r\n", "+QUEUED\r\n", "+QUEUED\r\n", "_\r\n"]);
-    assert_eq!(null.cause(), Cause::BadShape);
-    assert!(null.to_string().contains("EXEC was answered by null"));
+    for null in ["_\r\n", "*-1\r\n", "$-1\r\n"] {
+        let null = refused(["+OK\r\n", "+QUEUED\r\n", "+QUEUED\r\n", null]);
+        assert_eq!(null.cause(), Cause::BadShape);
+        assert!(null.to_string().contains("EXEC was answered by null"));
+    }
     let aborted = refused([
         "+OK\r\n",
         "-ERR unknown\r\n",

@@ -2,81 +2,22 @@
 //! the server is not installed, the tests say so and are left out.
 
 mod common;
+#[path = "common/host.rs"]
+mod host;
 
 use common::Server;
+use host::{Desk, get};
 use redis_cache::lent::{ValueEnd, value_end};
-use redis_cache::{
-    Cache, CacheConfig, CacheMode, Call, Clock, Cmd, CommandCacheConfig, Error, Event, NoAnswer,
-    OwnedAnswer, ServerError, Stream, cmd, pipe, tracking_on,
-};
+use redis_cache::{Cache, CacheConfig, CacheMode, ServerError, Stream, cmd, pipe, tracking_on};
 use std::io::{Read, Write};
 use std::os::unix::net::UnixStream;
 use std::thread::sleep;
 use std::time::Duration;
 
-/// The host program: a socket and a stream.
-struct Desk {
-    socket: UnixStream,
-    stream: Stream,
-    clock: Clock,
-}
-
 impl Desk {
     fn new(server: &Server, mode: CacheMode) -> Self {
         let cache = Cache::new(CacheConfig::new().set_mode(mode)).expect("these settings");
-        Desk {
-            socket: server.connect(),
-            stream: Stream::new(cache),
-            clock: Clock::new(),
-        }
-    }
-
-    /// The answer, and whether the server was asked for it.
-    fn ask(&mut self, call: &impl Call) -> (OwnedAnswer, bool) {
-        let asked = self.stream.send(self.clock.now(), call).expect("a call");
-        let sends = !self.stream.to_send().is_empty();
-        loop {
-            match self.stream.next_event() {
-                Some(Event::Answer(ticket, answer)) if ticket == asked => return (answer, sends),
-                Some(Event::Push(_)) => continue,
-                Some(other) => panic!("{other:?}"),
-                None => self.read(),
-            }
-        }
-    }
-
-    /// Why a call is refused.
-    fn refused(&mut self, call: &impl Call) -> Error {
-        self.stream.send(self.clock.now(), call).expect("a call");
-        loop {
-            match self.stream.next_answer() {
-                Some(Err(NoAnswer::Refused(error))) => return error,
-                Some(other) => panic!("{other:?}"),
-                None => self.read(),
-            }
-        }
-    }
-
-    fn catch(&mut self, call: &impl Call) -> (String, bool) {
-        let (answer, sent) = self.ask(call);
-        let catch: Option<String> = answer.query().expect("a string");
-        (catch.unwrap_or("none".into()), sent)
-    }
-
-    fn read(&mut self) {
-        let to_send = self.stream.take_to_send();
-        self.socket.write_all(&to_send).expect("sent");
-        let mut bytes = [0; 4096];
-        let n = self.socket.read(&mut bytes).expect("received");
-        assert_ne!(n, 0, "the server hung up");
-        self.stream.received(self.clock.now(), &bytes[..n]);
-    }
-
-    /// Reads until so many entries were invalidated in all.
-    fn hear(&mut self, invalidated: u64) {
-        while self.stream.cache().statistics().invalidate < invalidated {
-            self.read();
-        }
+        Self::over(server, Stream::new(cache))
     }
 }
 
@@ -97,15 +38,6 @@ impl Trap {
     }
 }
 
-fn get(key: &str, mode: CacheMode) -> Cmd {
-    let mut get = cmd("GET");
-    get.arg(key);
-    if mode == CacheMode::OptIn {
-        get.set_cache_config(CommandCacheConfig::new());
-    }
-    get
-}
-
 fn fresh_after_an_invalidation(name: &str, mode: CacheMode) {
     let Some(server) = Server::start(name) else {
         return;
@@ -113,17 +45,17 @@ fn fresh_after_an_invalidation(name: &str, mode: CacheMode) {
     let (mut desk, mut trap) = (Desk::new(&server, mode), Trap(server.connect()));
     let get = get("trap7", mode);
     trap.post("SET trap7 12");
-    assert_eq!(desk.catch(&get), ("12".into(), true));
-    assert_eq!(desk.catch(&get), ("12".into(), false));
-    for (round, catch) in (1..).zip(["13", "14", "15"]) {
+    assert_eq!(desk.catch(&get), (Some(12), true));
+    assert_eq!(desk.catch(&get), (Some(12), false));
+    for (round, catch) in (1..).zip([13, 14, 15]) {
         trap.post(&format!("SET trap7 {catch}"));
         desk.hear(round);
-        assert_eq!(desk.catch(&get), (catch.into(), true));
-        assert_eq!(desk.catch(&get), (catch.into(), false));
+        assert_eq!(desk.catch(&get), (Some(catch), true));
+        assert_eq!(desk.catch(&get), (Some(catch), false));
     }
     trap.post("FLUSHALL");
     desk.hear(4);
-    assert_eq!(desk.catch(&get), ("none".into(), true));
+    assert_eq!(desk.catch(&get), (None, true));
 }
 
 #[test]
@@ -174,9 +106,9 @@ fn expiry() {
     let mut trap = Trap(server.connect());
     trap.post("SET trap7 12 PX 300");
     let get = get("trap7", CacheMode::All);
-    assert_eq!(desk.catch(&get), ("12".into(), true));
+    assert_eq!(desk.catch(&get), (Some(12), true));
     sleep(Duration::from_millis(400));
-    assert_eq!(desk.catch(&get), ("none".into(), true));
+    assert_eq!(desk.catch(&get), (None, true));
 }
 
 /// The server is stopped and another one started: nothing of before is served.
@@ -188,12 +120,12 @@ fn restart() {
     let mut desk = Desk::new(&server, CacheMode::All);
     Trap(server.connect()).post("SET trap7 12");
     let get = get("trap7", CacheMode::All);
-    assert_eq!(desk.catch(&get), ("12".into(), true));
+    assert_eq!(desk.catch(&get), (Some(12), true));
     drop(server);
     let another = Server::start("restart").expect("installed");
     desk.socket = another.connect();
     desk.stream.reconnected();
-    assert_eq!(desk.catch(&get), ("none".into(), true));
+    assert_eq!(desk.catch(&get), (None, true));
     assert_eq!(desk.stream.cache().epoch(), 1);
 }
 
@@ -234,10 +166,7 @@ fn what_the_server_says() {
         refused.to_string().contains("EXEC was answered by null"),
         "{refused}"
     );
-    assert_eq!(
-        desk.catch(&get("trap7", CacheMode::All)),
-        ("13".into(), true)
-    );
+    assert_eq!(desk.catch(&get("trap7", CacheMode::All)), (Some(13), true));
 }
 
 /// So many values, as they arrive on a connection.
@@ -296,14 +225,14 @@ fn a_call_that_reads_what_it_writes() {
     let mut desk = Desk::new(&server, CacheMode::All);
     Trap(server.connect()).post("SET trap7 0");
     let get = get("trap7", CacheMode::All);
-    assert_eq!(desk.catch(&get), ("0".into(), true));
+    assert_eq!(desk.catch(&get), (Some(0), true));
     let mut call = pipe();
     call.add_command(get.clone());
     call.cmd("SET").arg("trap7").arg(5).ignore();
     call.add_command(get.clone());
     assert_eq!(desk.ask(&call).0.query(), Ok((0, 0)));
     desk.hear(1);
-    assert_eq!(desk.catch(&get), ("5".into(), true));
+    assert_eq!(desk.catch(&get), (Some(5), true));
 }
 
 /// A hazard: all replies of one call are over 16 MiB.

@@ -1,8 +1,12 @@
 //! The stream: bytes in any pieces, replies and pushes in their order, connections lost and made anew.
 
+#[path = "common/asked.rs"]
+mod asked;
+
+use asked::{answers, get, served};
 use redis_cache::{
-    Cache, CacheConfig, CacheMode, Cmd, CommandCacheConfig, Event, Lost, Stream, Ticket, Value,
-    cmd, pipe, tracking_on,
+    Cache, CacheConfig, CacheMode, CommandCacheConfig, Event, Lost, Stream, Value, cmd, pipe,
+    tracking_on,
 };
 
 /// The responses to `HELLO 3` and `CLIENT TRACKING ON`.
@@ -14,37 +18,6 @@ fn stream() -> Stream {
     Stream::new(Cache::new(CacheConfig::new()).expect("these settings"))
 }
 
-fn get(key: &str) -> Cmd {
-    cmd("GET").arg(key).take()
-}
-
-/// The answers in the order in which they come, each as a string; pushes are passed over.
-fn answers(stream: &mut Stream) -> Vec<(Ticket, String)> {
-    let mut answers = Vec::new();
-    while let Some(event) = stream.next_event() {
-        match event {
-            Event::Answer(ticket, answer) => {
-                answers.push((ticket, answer.query().expect("a string")))
-            }
-            Event::Push(_) => {}
-            other => panic!("{other:?}"),
-        }
-    }
-    answers
-}
-
-/// Whether the key is served without asking the server; where it is not, its replies come.
-fn served(stream: &mut Stream, key: &str) -> bool {
-    stream.take_to_send();
-    stream.send(0, &get(key)).expect("a call");
-    let served = stream.to_send().is_empty();
-    if !served {
-        stream.received(0, b":-1\r\n$1\r\n0\r\n");
-    }
-    assert_eq!(answers(stream).len(), 1);
-    served
-}
-
 /// A call and the bytes that come for it, cut at every place: the same answer, and the same is kept.
 fn after(bytes: &str, kept: bool) {
     let bytes = format!("{GREETED}{bytes}");
@@ -54,7 +27,7 @@ fn after(bytes: &str, kept: bool) {
         let asked = stream.send(0, &get("trap7")).expect("a call");
         stream.received(0, first);
         stream.received(0, second);
-        assert_eq!(answers(&mut stream), [(asked, "12".to_string())], "{cut}");
+        assert_eq!(answers(&mut stream), [(asked, Some("12".into()))], "{cut}");
         assert_eq!(served(&mut stream, "trap7"), kept, "{cut}");
     }
 }
@@ -142,7 +115,7 @@ fn open_calls_are_answered_in_order() {
         (late, "8"),
         (asked[2], "7"),
     ];
-    let expected = expected.map(|(ticket, text)| (ticket, text.to_string()));
+    let expected = expected.map(|(ticket, text)| (ticket, Some(text.to_string())));
     assert_eq!(answers(&mut stream), expected);
 }
 

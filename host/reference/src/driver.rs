@@ -110,7 +110,7 @@ impl Reference {
     /// `handle_push_value`, for a push; the kind is read from a blob alone. Other values are no push.
     pub fn push(&mut self, at: At, value: resp::Value) -> Answer {
         if let resp::Value::Push(list) = value {
-            let mut list: Vec<Value> = list.into_iter().map(Value::from).collect();
+            let mut list: Vec<Value> = list.into_iter().map(|v| Value::from(v).seen()).collect();
             let data = list.split_off(list.len().min(1));
             let kind = match list.first() {
                 Some(Value::BulkString(kind)) if kind == b"invalidate" => PushKind::Invalidate,

@@ -22,6 +22,8 @@ pub struct Limits {
     pub cursor_as_key: bool,
     /// Single calls alone, also past their limits.
     pub single: bool,
+    /// Arenas in which no store lacks space.
+    pub ample: bool,
 }
 
 impl Limits {
@@ -29,18 +31,26 @@ impl Limits {
     pub const ALL: Limits = Limits {
         cursor_as_key: true,
         single: false,
+        ample: false,
     };
 
     /// Every call that the crate can be given.
     pub const CRATE: Limits = Limits {
         cursor_as_key: false,
         single: false,
+        ample: false,
+    };
+
+    /// The same where no store lacks space.
+    pub const AMPLE: Limits = Limits {
+        ample: true,
+        ..Limits::CRATE
     };
 
     /// Single calls.
     pub const SINGLE: Limits = Limits {
-        cursor_as_key: false,
         single: true,
+        ..Limits::CRATE
     };
 
     /// The parties that can be given these calls.
@@ -79,7 +89,10 @@ impl Sequence {
     /// The sequence of a seed, with the parties that follow the model.
     pub fn begin(seed: u64, limits: Limits, followers: Followers) -> Self {
         let mut rng = Rng::new(seed);
-        let setup = setups::setup(&mut rng);
+        let mut setup = setups::setup(&mut rng);
+        if limits.ample {
+            setups::widen(&mut setup);
+        }
         let run = Run::begin(&setup, followers(&setup));
         let generator = Generator::new(rng, setup, limits);
         Sequence {

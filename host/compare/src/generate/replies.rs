@@ -70,7 +70,7 @@ impl Generator {
         if sent.transaction {
             return match self.rng.below(30) {
                 0 => list,
-                1 => Value::Array(vec![list, Value::Null]),
+                1 => Value::Array(vec![list, self.null()]),
                 _ => self.shape(Value::Array(vec![list])),
             };
         }
@@ -83,7 +83,7 @@ impl Generator {
             return list;
         };
         match self.rng.below(100) {
-            0 => Value::Null,
+            0 => self.null(),
             1 => Value::Set(elements),
             2 => Value::Attribute(Vec::new(), Box::new(Value::Array(elements))),
             3 => Value::Array(vec![Value::Array(elements)]),
@@ -101,6 +101,7 @@ impl Generator {
                 2 => self.value(2),
                 3 => Value::Attribute(Vec::new(), Box::new(Value::Integer(5))),
                 4 => Value::Integer(self.rng.of(&[i64::MIN, i64::MAX])),
+                5 => self.null(),
                 _ => Value::Integer(self.rng.of(&[-2, -1, -1, -1, 0, 1, 5, 20, 100, 100])),
             },
             Some(b"MGET") => self.elements(command.len() - 1),
@@ -115,6 +116,7 @@ impl Generator {
             1 => count + 1,
             2 => count + 2,
             3 => self.rng.below(3),
+            4 => return self.null(),
             _ => count,
         };
         Value::Array((0..count).map(|_| self.value(2)).collect())

@@ -43,6 +43,12 @@ pub fn setup(rng: &mut Rng) -> Setup {
     }
 }
 
+/// Makes the arena long enough for all that a sequence stores.
+pub fn widen(setup: &mut Setup) {
+    let (shards, _) = config::shards(setup.size);
+    setup.arena = shards * 32_768;
+}
+
 /// Keys of which several fall into one shard.
 pub fn keys(rng: &mut Rng, size: u64) -> Vec<Vec<u8>> {
     let (shards, keys) = config::shards(size);

@@ -1,19 +1,20 @@
 //! Random RESP3 values and pushes.
 
 use super::generator::Generator;
-use calls::{Value, resp};
+use calls::Value;
+use calls::resp::{self, Spelling};
 
 impl Generator {
     /// A value of any kind, nested at most `deep`.
     pub fn value(&mut self, deep: usize) -> Value {
         let text = self.rng.pick::<[u8]>(&[b"x", b"y", b"zz", b""]).to_vec();
         match self.rng.below(if deep > 1 { 24 } else { 16 }) {
-            0..6 => Value::Blob(text),
+            0..5 => Value::Blob(text),
             6 => Value::Simple(text),
             7 => Value::Error(b"ERR e".to_vec()),
             8 => Value::BlobError(text),
             9 => Value::Integer(self.rng.of(&[0, -1, 1, 7, i64::MAX, i64::MIN])),
-            10..12 => Value::Null,
+            5 | 10 | 11 => self.null(),
             12 => Value::Double(b"1.5".to_vec()),
             13 => Value::Boolean(self.rng.chance(50)),
             14 => Value::Verbatim([b"txt:".to_vec(), text].concat()),
@@ -24,6 +25,12 @@ impl Generator {
             21 => Value::Map(self.pairs(deep)),
             _ => Value::Attribute(self.pairs(deep), Box::new(self.value(deep - 1))),
         }
+    }
+
+    /// A null in any of its spellings.
+    pub(super) fn null(&mut self) -> Value {
+        let spellings = [Spelling::Underscore, Spelling::Blob, Spelling::Array];
+        Value::Null(self.rng.of(&spellings))
     }
 
     fn values(&mut self, deep: usize) -> Vec<Value> {
@@ -47,9 +54,9 @@ impl Generator {
             _ => Value::Blob(b"invalidate".to_vec()),
         };
         let what = match self.rng.below(20) {
-            0..3 => Value::Null,
+            0..3 => self.null(),
             3 => Value::Set(self.pushed_keys()),
-            4 => Value::Attribute(Vec::new(), Box::new(Value::Null)),
+            4 => Value::Attribute(Vec::new(), Box::new(self.null())),
             5 => Value::Attribute(Vec::new(), Box::new(Value::Array(self.pushed_keys()))),
             6 => Value::Blob(self.key()),
             _ => Value::Array(self.pushed_keys()),
@@ -74,6 +81,7 @@ impl Generator {
         (0..self.rng.below(4))
             .map(|_| match self.rng.below(8) {
                 0 => Value::Simple(self.key()),
+                1 if self.rng.chance(30) => self.null(),
                 1 => self.value(2),
                 _ => Value::Blob(self.key()),
             })

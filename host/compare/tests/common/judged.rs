@@ -102,6 +102,10 @@ pub fn records() -> Vec<(Record, &'static str)> {
             lines(true, &["GET b", "GET a"]),
             "*1\r\n*2\r\n:1\r\n%1\r\n+k\r\n,1.5\r\n",
         ),
+        (
+            lines(false, &["MGET b c", "GET x"]),
+            "*5\r\n*2\r\n$-1\r\n*-1\r\n:5\r\n$-1\r\n:-1\r\n*-1\r\n",
+        ),
         (lines(false, &[]), "*0\r\n"),
     ]
 }

@@ -166,7 +166,7 @@ pub struct Replies {
 }
 
 impl Replies {
-    /// Takes the next response, one RESP3 value. One that comes after the last is left out.
+    /// Takes the next response, one value as the server wrote it. One that comes after the last is left out.
     ///
     /// ```
     /// # use redis_cache::{Cache, CacheConfig, cmd};
@@ -185,7 +185,7 @@ impl Replies {
         } else if self.wanted > 0 {
             self.wanted -= 1;
             self.error = self.error.take().or_else(|| server_error(response));
-            self.null |= response == b"_\r\n";
+            self.null |= is_null(response);
             self.bytes.extend_from_slice(response);
         }
     }
@@ -218,6 +218,11 @@ impl Replies {
             _ => Error::of(cause),
         }
     }
+}
+
+/// Whether a response is null, in RESP3's spelling or in one of RESP2's: a server that speaks RESP2 answers a discarded `EXEC` by `*-1`.
+fn is_null(response: &[u8]) -> bool {
+    matches!(response, b"_\r\n" | b"$-1\r\n" | b"*-1\r\n")
 }
 
 /// The error that a response is.

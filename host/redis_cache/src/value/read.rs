@@ -38,6 +38,7 @@ impl<'a> Reader<'a> {
         let (&kind, rest) = self.rest.split_first()?;
         self.rest = rest;
         Some(match kind {
+            b'$' | b'*' if self.absent() => Value::Nil,
             b'$' => Value::BulkString(self.blob()?.into()),
             b'!' => Value::ServerError(ServerError::of(self.blob()?)),
             b'=' => verbatim(self.blob()?)?,
@@ -62,6 +63,13 @@ impl<'a> Reader<'a> {
             },
             _ => return None,
         })
+    }
+
+    /// Whether RESP2's mark of what is absent comes next; it is then read.
+    fn absent(&mut self) -> bool {
+        let rest = self.rest.strip_prefix(b"-1\r\n");
+        self.rest = rest.unwrap_or(self.rest);
+        rest.is_some()
     }
 
     /// The bytes up to the next CR LF, which hold neither CR nor LF.
@@ -125,7 +133,8 @@ fn integer(line: &[u8]) -> Option<i64> {
 #[cfg(test)]
 mod tests {
     use super::*;
-    use crate::testing::{RIGHT, WRONG, nested};
+    use crate::testing::{NULLS, RIGHT, WRONG, nested, old_nulls};
+    use calls::resp::Spelling;
 
     /// The bytes of a value.
     fn encode(value: &Value<'_>) -> Vec<u8> {
@@ -138,7 +147,7 @@ mod tests {
             pairs.iter().map(|(k, v)| (other(k), other(v))).collect()
         };
         match value {
-            Value::Nil => calls::Value::Null,
+            Value::Nil => calls::Value::Null(Spelling::Underscore),
             Value::Int(n) => calls::Value::Integer(*n),
             Value::BulkString(b) => calls::Value::Blob(b.to_vec()),
             Value::SimpleString(b) => calls::Value::Simple(b.to_vec()),
@@ -172,12 +181,22 @@ mod tests {
         }
     }
 
+    /// RESP2's nulls are null wherever RESP3's is.
+    #[test]
+    fn old_nulls_are_null() {
+        for (text, new) in old_nulls() {
+            let read = value(text.as_bytes()).unwrap_or_else(|| panic!("{text:?}"));
+            assert_eq!(Some(read), value(new.as_bytes()), "{text:?}");
+        }
+    }
+
     #[test]
     fn wrong_values_and_every_cut_are_refused() {
         for text in WRONG {
             assert_eq!(value(text.as_bytes()), None, "{text:?}");
         }
-        for text in RIGHT {
+        let old = old_nulls().map(|(text, _)| text);
+        for text in old.chain(RIGHT.iter().map(|text| text.to_string())) {
             for end in 0..text.len() {
                 assert_eq!(value(&text.as_bytes()[..end]), None, "{text:?}, {end}");
             }
@@ -187,10 +206,12 @@ mod tests {
     #[test]
     fn depths() {
         for head in ["*1\r\n", "|0\r\n", "~1\r\n", ">1\r\n", "%1\r\n_\r\n"] {
-            assert!(value(&nested(head, 15)).is_some(), "{head:?}");
-            assert!(value(&nested(head, 16)).is_none(), "{head:?}");
-            assert!(result(&nested(head, 17)).is_some(), "{head:?}");
-            assert!(result(&nested(head, 18)).is_none(), "{head:?}");
+            for null in NULLS {
+                assert!(value(&nested(head, 15, null)).is_some(), "{head:?}");
+                assert!(value(&nested(head, 16, null)).is_none(), "{head:?}");
+                assert!(result(&nested(head, 17, null)).is_some(), "{head:?}");
+                assert!(result(&nested(head, 18, null)).is_none(), "{head:?}");
+            }
         }
     }
 }

@@ -2,7 +2,7 @@
 //! crate's own: arrays become lists, integers PTTLs and blobs keys, and nothing else does.
 
 use super::errors::{ParsingError, RedisError, ServerError};
-use calls::resp;
+use calls::resp::{self, Spelling};
 use std::fmt;
 use std::io::Write;
 
@@ -24,11 +24,21 @@ pub enum Value {
     Array(Vec<Value>),
     /// `-` and `!`
     ServerError(ServerError),
-    /// Every other kind, and what stands under `|`.
+    /// Every other kind, what stands under `|`, and RESP2's nulls (see [`Value::seen`]).
     Other(resp::Value),
 }
 
 impl Value {
+    /// The value as the sources are to see it where they ask for a null. The crate has one Nil, in which the spelling would be lost, while a null is stored,
+    /// handed out and measured for the space rule as it came. So RESP2's two go through the sources as values of which nothing is asked, which
+    /// is all that a null is to them everywhere but in a push: there, and only there, this makes Nil of them.
+    pub(crate) fn seen(self) -> Self {
+        match self {
+            Value::Other(resp::Value::Null(_)) => Value::Nil,
+            other => other,
+        }
+    }
+
     /// The value with a server error turned into an error.
     pub(crate) fn extract_error(self) -> RedisResult<Self> {
         match self {
@@ -46,7 +56,7 @@ impl Value {
 impl From<resp::Value> for Value {
     fn from(value: resp::Value) -> Self {
         match value {
-            resp::Value::Null => Value::Nil,
+            resp::Value::Null(Spelling::Underscore) => Value::Nil,
             resp::Value::Integer(n) => Value::Int(n),
             resp::Value::Blob(bytes) => Value::BulkString(bytes),
             resp::Value::Array(list) => Value::Array(list.into_iter().map(Value::from).collect()),
@@ -61,7 +71,7 @@ impl From<resp::Value> for Value {
 impl From<&Value> for resp::Value {
     fn from(value: &Value) -> Self {
         match value {
-            Value::Nil => resp::Value::Null,
+            Value::Nil => resp::Value::Null(Spelling::Underscore),
             Value::Int(n) => resp::Value::Integer(*n),
             Value::BulkString(bytes) => resp::Value::Blob(bytes.clone()),
             Value::Array(list) => resp::Value::Array(list.iter().map(resp::Value::from).collect()),
@@ -214,6 +224,8 @@ mod tests {
         );
         for other in [
             "_\r\n",
+            "$-1\r\n",
+            "*-1\r\n",
             "~1\r\n:1\r\n",
             ">1\r\n:1\r\n",
             "%0\r\n",
@@ -232,6 +244,8 @@ mod tests {
         assert_eq!(read::<i64>(":-5\r\n"), Some(-5));
         assert_eq!(read::<Vec<u8>>("$1\r\na\r\n"), Some(b"a".to_vec()));
         for other in [
+            "$-1\r\n",
+            "*-1\r\n",
             "+5\r\n",
             ",5\r\n",
             "(5\r\n",
@@ -247,6 +261,9 @@ mod tests {
     fn values_keep_their_bytes() {
         for text in [
             "*2\r\n_\r\n!1\r\nx\r\n",
+            "*3\r\n$-1\r\n*-1\r\n_\r\n",
+            "$-1\r\n",
+            "*-1\r\n",
             "-ERR\r\n",
             "%1\r\n:1\r\n#t\r\n",
             "|0\r\n$1\r\na\r\n",
@@ -254,5 +271,19 @@ mod tests {
             let value = resp::parse(text.as_bytes()).expect("a value");
             assert_eq!(bytes(&value.into()), text.as_bytes());
         }
+    }
+
+    #[test]
+    fn every_null_is_seen_as_one() {
+        let seen = |text: &str| {
+            let value = resp::parse(text.as_bytes()).expect("a value");
+            Value::from(value).seen()
+        };
+        for null in ["_\r\n", "$-1\r\n", "*-1\r\n"] {
+            assert_eq!(seen(null), Value::Nil, "{null:?}");
+            let under = seen(&format!("|0\r\n{null}"));
+            assert!(matches!(under, Value::Other(_)), "{null:?}");
+        }
+        assert_eq!(seen("*0\r\n"), Value::Array(Vec::new()));
     }
 }
