@@ -106,7 +106,11 @@ oneEnd s p = cond (eqb (getD s p 0) 49) (crlfEnd s (p + 1)) Bad
 unfoldable pub kindHead : Bytes → ℕ → Head
 kindHead s at = bodyHead (shapeOf (kindOf (getD s at 0))) s (at + 1)
 
--- the same with RESP2's nulls
+-- a null of RESP2's
+abbrev pub nullHead : Bytes → ℕ → Head
+nullHead s at = cond (nullWordB s at) (aloneOf (oneEnd s (at + 2))) BadHead
+
+-- either of the two
 unfoldable pub headAt : Bytes → ℕ → Head
 headAt s at = cond (nullWordB s at) (aloneOf (oneEnd s (at + 2))) (kindHead s at)
 

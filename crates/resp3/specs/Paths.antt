@@ -1,5 +1,5 @@
 -- One equation for each way through the reader's code, by which the proofs of its functions go. Assumes nothing.
-use mathlib.Core.Path.{_≡_, refl, _∙_}
+use mathlib.Core.Path.{_≡_, refl, sym, _∙_}
 use mathlib.Core.Bool.{true, false, cond, not, false≢true}
 use mathlib.Core.List.{List, [], _∷_}
 use Prim.Native.Nat.{ℕ, zero, suc, _+_, _-_, _<_, _≤_}
@@ -7,7 +7,7 @@ use native.Mathlib.Omega.{arith}
 use native.Mathlib.Numerals.{add-one}
 use lib.Dec.{eqb, ltb}
 use lib.ListN.{length, getD, drop, List·getD-eq-default}
-use borrow.Author.Tests.{ne-eqb, le-leb, lt-leb, ltb-true, ltb-false}
+use borrow.Author.Tests.{eqb-true, ne-eqb, le-leb, lt-leb, ltb-true, ltb-false}
 use Rattle.buffer.specs.Same.{Bytes}
 use Rattle.buffer.specs.Cases.{byTest}
 use Rattle.config.specs.Limits.{maxBytes, maxDepth}
@@ -20,14 +20,14 @@ use Rattle.resp3.specs.declared.Kind.{Kind}
 use Rattle.resp3.specs.declared.Kind.the-variants.{Unknown}
 use Rattle.resp3.specs.declared.Shape.{Shape}
 use Rattle.resp3.specs.declared.Head.{Head}
-use Rattle.resp3.specs.declared.Head.the-variants.{Bad as BadHead}
+use Rattle.resp3.specs.declared.Head.the-variants.{Of, Bad as BadHead}
 use Rattle.resp3.specs.declared.End.{End}
 use Rattle.resp3.specs.declared.End.the-variants.{At, Bad}
 use Rattle.resp3.specs.Kinds.{byteOf, shapeOf, kinds, pick, kindOf}
 use Rattle.resp3.specs.Value.{plainB}
 use Rattle.resp3.specs.Ends.{numThen, lengthAt, crlfEnd, plain, lineEnd, blobEnd, verbatimEnd, numberEnd, booleanEnd, aloneOf, countOf}
-use Rattle.resp3.specs.Ends.{bodyHead, nullWordB, oneEnd, kindHead, headAt, headThen, iter, valueEnd, itemsEnd, endsAt, isValue}
-use Rattle.resp3.specs.Nulls.{word-out}
+use Rattle.resp3.specs.Ends.{bodyHead, nullWordB, oneEnd, kindHead, nullHead, headAt, headThen, iter, valueEnd, itemsEnd, endsAt, isValue}
+use Rattle.resp3.specs.Nulls.{word-out, word-says, word-length}
 
 -- a byte that begins no kind of a list
 abbrev pub NoneOf : ℕ → List Kind → Type 0
@@ -222,6 +222,33 @@ head-is s at k h = rw h
 pub kind-out : (s : Bytes) (at : ℕ) → length s ≤ at → kindHead s at ≡ BadHead
 unfolding kindHead kindOf bodyHead
 kind-out s at h = rw (getD-out s at h)
+
+-- a null of RESP2's has a length or a count that is none
+word-bad : (s : Bytes) (at : ℕ) → nullWordB s at ≡ true → kindHead s at ≡ BadHead
+unfolding kindHead kindOf bodyHead
+word-bad s at w =
+    byTest (eqb (getD s at 0) 36)
+    (λ t. rw (eqb-true (getD s at 0) 36 t, blob-bad s (at + 1) (word-length s at w)))
+    (λ t. rw (eqb-true (getD s at 0) 42 (rw t at (word-says s at w .0)), word-length s at w))
+
+-- so that what the kind finds is all that there is
+pub head-found : (s : Bytes) (at n e : ℕ) → kindHead s at ≡ Of n e → headAt s at ≡ Of n e
+head-found s at n e h =
+    byTest (nullWordB s at)
+    (λ w. let b : BadHead ≡ Of n e = sym (word-bad s at w) ∙ h in absurd (let z : _≡_ {A = ℕ} 0 1 = cc in omega arith))
+    (λ w. head-kind s at w ∙ h)
+
+-- and where it finds nothing, it may be such a null
+pub head-else : (s : Bytes) (at : ℕ) → kindHead s at ≡ BadHead → headAt s at ≡ nullHead s at
+unfolding headAt
+head-else s at h = rw h
+
+-- the ways through the code: such a null, or none
+pub null-yes : (s : Bytes) (at : ℕ) → nullWordB s at ≡ true → nullHead s at ≡ aloneOf (oneEnd s (at + 2))
+null-yes s at w = rw w
+
+pub null-no : (s : Bytes) (at : ℕ) → nullWordB s at ≡ false → nullHead s at ≡ BadHead
+null-no s at w = rw w
 
 -- and no null there
 head-out : (s : Bytes) (at : ℕ) → length s ≤ at → headAt s at ≡ BadHead

@@ -10,7 +10,7 @@ ghost use Rattle.buffer.specs.Part.{part, put};
 ghost use Rattle.resp3.specs.Kinds.{kindOf, shapeOf};
 ghost use Rattle.resp3.specs.Value.{plainB, nullBytes};
 ghost use Rattle.resp3.specs.Ends.{lengthAt, crlfEnd, lineEnd, blobEnd, verbatimEnd, numberEnd, booleanEnd, aloneOf, nullWordB, oneEnd, kindHead};
-ghost use Rattle.resp3.specs.Ends.{headAt, valueEnd, isValue};
+ghost use Rattle.resp3.specs.Ends.{nullHead, headAt, valueEnd, isValue};
 
 // Where something ends: the place after its last byte. Bad where it does not stand there whole.
 pub enum End {
@@ -226,7 +226,7 @@ fn alone(x: End) -> Head
     }
 }
 
-// Whether `$` or `*` stands at `at` with a minus behind it: so begin RESP2's nulls, and no other value. Most values have no minus there.
+// Whether `$` or `*` stands at `at` with a minus behind it: so begin RESP2's nulls, and no other value.
 pub fn null_word_at(s: &[u8], at: usize) -> bool
     ensures { λ r. ⌜ r ≡ nullWordB (now (s .entry)) at ⌝ }
 {
@@ -296,14 +296,24 @@ fn kind_head(s: &[u8], at: usize) -> Head
     }
 }
 
-// The same with RESP2's nulls, which an old server sends.
-fn head_at(s: &[u8], at: usize) -> Head
-    ensures { λ r. ⌜ r ≡ headAt (now (s .entry)) at ⌝ }
+// A null of RESP2's, which an old server sends.
+fn null_head(s: &[u8], at: usize) -> Head
+    ensures { λ r. ⌜ r ≡ nullHead (now (s .entry)) at ⌝ }
 {
     if null_word_at(s, at) {
         return alone(one_end(s, at + 2));
     }
-    kind_head(s, at)
+    Head::Bad
+}
+
+// Either of the two. By the kind of their first byte those nulls have a length or a count that is none, so that no other value pays for a look at them.
+fn head_at(s: &[u8], at: usize) -> Head
+    ensures { λ r. ⌜ r ≡ headAt (now (s .entry)) at ⌝ }
+{
+    match kind_head(s, at) {
+        Head::Of(n, e) => Head::Of(n, e),
+        Head::Bad => null_head(s, at),
+    }
 }
 
 // Where the value at `at` ends, if one stands there that nests at most depth deep.

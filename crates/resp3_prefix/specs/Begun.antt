@@ -170,7 +170,11 @@ bodyBegun d Unknown s p = NoHead
 unfoldable pub kindBegun : ℕ → Bytes → ℕ → Opened
 kindBegun d s at = cond (leb (length s) at) (LacksHead 3) (bodyBegun d (kindOf (getD s at 0)) s (at + 1))
 
--- the same with RESP2's nulls
+-- a null of RESP2's
+abbrev pub nullBegun : Bytes → ℕ → Opened
+nullBegun s at = cond (nullWordB s at) (aloneOf (oneBegun s (at + 2))) NoHead
+
+-- either of the two
 unfoldable pub headBegun : ℕ → Bytes → ℕ → Opened
 headBegun d s at = cond (nullWordB s at) (aloneOf (oneBegun s (at + 2))) (kindBegun d s at)
 

@@ -1,7 +1,7 @@
 -- RESP2's nulls, `$-1` and `*-1`, of which a beginning stands in the bytes: the ways through the code, that resp3's reader agrees, and that bytes that
 -- lack k begin one which is k longer. Assumes nothing.
-use mathlib.Core.Path.{_≡_, sym, ap}
-use mathlib.Core.Bool.{true}
+use mathlib.Core.Path.{_≡_, sym, ap, _∙_}
+use mathlib.Core.Bool.{true, false}
 use mathlib.Core.Logic.{_⊎_, inl, inr}
 use mathlib.Core.List.{[], _∷_, _++_}
 use Prim.Native.Nat.{ℕ, _+_, _≤_, _<_}
@@ -12,13 +12,20 @@ use borrow.Author.Tests.{leb-true, leb-false, le-leb, lt-leb, eqb-true, eqb-fals
 use Rattle.buffer.specs.Cases.{byTest}
 use Rattle.buffer.specs.Same.{Bytes}
 use Rattle.config.specs.Limits.{maxBytes}
-use Rattle.decimal.specs.ReadLaws.{num-out}
+use Rattle.decimal.specs.Read.{digitB}
+use Rattle.decimal.specs.ReadLaws.{num-out, lead-stop}
+use Rattle.resp3.specs.Kinds.{kindOf}
+use Rattle.resp3.specs.declared.Kind.the-variants.{BlobString, Array}
 use Rattle.resp3.specs.Value.{Spelling, blobNull, arrayNull, crlf, framed, spelled}
 use Rattle.resp3.specs.Ends.{lengthAt, blobEnd, nullWordB, oneEnd}
 use Rattle.resp3.specs.Nulls as ends
 use Rattle.resp3.specs.Paths.{blob-bad}
 use Rattle.resp3_prefix.specs.declared.Begun.the-variants.{Lacks, Never}
-use Rattle.resp3_prefix.specs.Begun.{crlfBegun, blobBegun, stringBegun, oneBegun}
+use Rattle.resp3_prefix.specs.declared.Count.the-variants.{Never as NoCount}
+use Rattle.resp3_prefix.specs.declared.Opened.{Opened}
+use Rattle.resp3_prefix.specs.declared.Opened.the-variants.{Of, Lacks as LacksHead, Never as NoHead}
+use Rattle.resp3_prefix.specs.Begun.{crlfBegun, blobBegun, stringBegun, oneBegun, aloneOf, rowOf, bodyBegun, kindBegun, nullBegun, headBegun}
+use Rattle.resp3_prefix.specs.Paths as paths
 use Rattle.resp3_prefix.specs.Same.{lacks-no-end, never-no-end, Agree, neither, crlf-agree, blob-agree}
 use Rattle.resp3_prefix.specs.Found.{Rest, lacks-same, never-lacks, crlf-found, blob-found, rest-behind}
 
@@ -48,6 +55,44 @@ one-yes s at l h = rw (lt-leb (length s) at l, h)
 pub one-no : (s : Bytes) (at : ℕ) → at < length s → ((getD s at 0 ≡ 49) → ⊥) → oneBegun s at ≡ Never
 unfolding oneBegun
 one-no s at l h = rw (lt-leb (length s) at l, ne-eqb (getD s at 0) 49 h)
+
+-- by the kind of its first byte such a null has a length or a count that is none
+word-never : (d : ℕ) (s : Bytes) (at : ℕ) → nullWordB s at ≡ true → kindBegun d s at ≡ NoHead
+unfolding kindOf bodyBegun
+word-never d s at w =
+    let t = ends.word-says s at w in
+    let i = ends.word-in s at w in
+    let c = paths.count-none maxBytes s (at + 1) i (λ z. omega arith) (lead-stop s (at + 1) (ap digitB (t .1))) in
+    byTest (eqb (getD s at 0) 36)
+    (λ b.
+    paths.kind-is d s at BlobString (omega arith) (ap kindOf (eqb-true (getD s at 0) 36 b))
+    ∙ ap aloneOf (string-in s (at + 1) i ∙ paths.blob-is s (at + 1) NoCount c))
+    (λ b. paths.kind-is d s at Array (omega arith) (ap kindOf (eqb-true (getD s at 0) 42 (rw b at (t .0)))) ∙ ap (rowOf d 1 0) c)
+
+-- so that what the kind finds is all that there is
+head-found : (d : ℕ) (s : Bytes) (at : ℕ) (x : Opened) → kindBegun d s at ≡ x → (x ≡ NoHead → ⊥) → headBegun d s at ≡ x
+head-found d s at x h n =
+    byTest (nullWordB s at)
+    (λ w. absurd (n (sym h ∙ word-never d s at w)))
+    (λ w. paths.head-kind d s at w ∙ h)
+
+pub head-of : (d : ℕ) (s : Bytes) (at n e : ℕ) → kindBegun d s at ≡ Of n e → headBegun d s at ≡ Of n e
+head-of d s at n e h = head-found d s at (Of n e) h (λ z. let y : _≡_ {A = ℕ} 0 1 = cc in omega arith)
+
+pub head-lacks : (d : ℕ) (s : Bytes) (at k : ℕ) → kindBegun d s at ≡ LacksHead k → headBegun d s at ≡ LacksHead k
+head-lacks d s at k h = head-found d s at (LacksHead k) h (λ z. let y : _≡_ {A = ℕ} 0 1 = cc in omega arith)
+
+-- and where it finds nothing, it may be such a null
+pub head-else : (d : ℕ) (s : Bytes) (at : ℕ) → kindBegun d s at ≡ NoHead → headBegun d s at ≡ nullBegun s at
+unfolding headBegun
+head-else d s at h = rw h
+
+-- one, or none
+pub null-yes : (s : Bytes) (at : ℕ) → nullWordB s at ≡ true → nullBegun s at ≡ aloneOf (oneBegun s (at + 2))
+null-yes s at w = rw w
+
+pub null-no : (s : Bytes) (at : ℕ) → nullWordB s at ≡ false → nullBegun s at ≡ NoHead
+null-no s at w = rw w
 
 -- ---- both readers find the same ends
 

@@ -10,7 +10,7 @@ ghost use Rattle.decimal.specs.Read.{digitB};
 ghost use Rattle.resp3.specs.Value.{plainB};
 ghost use Rattle.resp3_prefix.specs.Begun.{lacking, lackingRow, lackingBelow, crlfBegun, countEnd, countBegun, lineBegun, blobBegun};
 ghost use Rattle.resp3_prefix.specs.Begun.{stringBegun, oneBegun, verbatimBody, verbatimDigits, verbatimBegun, digitsOf, minusOf};
-ghost use Rattle.resp3_prefix.specs.Begun.{integerBegun, booleanBegun, aloneOf, rowOf, kindBegun, headBegun, valueBegun, within, firstValue};
+ghost use Rattle.resp3_prefix.specs.Begun.{integerBegun, booleanBegun, aloneOf, rowOf, kindBegun, nullBegun, headBegun, valueBegun, within, firstValue};
 
 // How far a value stands in the bytes.
 pub enum Begun {
@@ -419,15 +419,27 @@ fn kind_begun(s: &[u8], at: usize, depth: usize) -> Opened
     }
 }
 
-// The same with RESP2's nulls, which an old server sends.
-fn head_begun(s: &[u8], at: usize, depth: usize) -> Opened
+// A null of RESP2's, which an old server sends.
+fn null_begun(s: &[u8], at: usize) -> Opened
     requires { ⌜ length (now s) ≤ maxBytes ⌝ }
-    ensures { λ r. ⌜ r ≡ headBegun depth (now (s .entry)) at ⌝ }
+    ensures { λ r. ⌜ r ≡ nullBegun (now (s .entry)) at ⌝ }
 {
     if resp3::null_word_at(s, at) {
         return alone(one_begun(s, at + 2));
     }
-    kind_begun(s, at, depth)
+    Opened::Never
+}
+
+// Either of the two. By the kind of their first byte those nulls have a length or a count that is none, so that no other value pays for a look at them.
+fn head_begun(s: &[u8], at: usize, depth: usize) -> Opened
+    requires { ⌜ length (now s) ≤ maxBytes ⌝ }
+    ensures { λ r. ⌜ r ≡ headBegun depth (now (s .entry)) at ⌝ }
+{
+    match kind_begun(s, at, depth) {
+        Opened::Of(n, e) => Opened::Of(n, e),
+        Opened::Lacks(k) => Opened::Lacks(k),
+        Opened::Never => null_begun(s, at),
+    }
 }
 
 // The value at `at`, nesting at most depth deep.
