@@ -1,13 +1,11 @@
 //! Random sequences with every party that there is: SEQUENCES of them (3,000 if not set), each of 60 calls.
 #![cfg(any(feature = "reference", feature = "library"))]
 
+mod common;
+
+use common::sequences;
 use compare::coverage::{Coverage, OTHER_EVENTS, SINGLE_EVENTS};
 use compare::generate::{self, Limits};
-
-fn sequences() -> u64 {
-    let given = std::env::var("SEQUENCES").ok();
-    given.map_or(3000, |text| text.parse().expect("SEQUENCES is a number"))
-}
 
 /// All agree, and each of these events is met.
 fn agree(limits: Limits, events: &[&[&str]]) {

@@ -4,7 +4,7 @@ mod generator;
 mod records;
 mod replies;
 mod setups;
-mod values;
+pub mod values;
 
 use crate::coverage::Coverage;
 use crate::party::{followers, followers_of_all};
@@ -14,6 +14,7 @@ use crate::shrink::{Followers, shrink};
 use calls::{Answer, At, Call, Setup};
 use generator::Generator;
 use model::Model;
+pub use replies::Sent;
 
 /// What the parties can be given.
 #[derive(Clone, Copy)]

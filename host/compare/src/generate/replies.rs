@@ -6,7 +6,8 @@ use calls::{Value, resp};
 /// What a plan sent: the arguments of each command, without `MULTI` and `EXEC`.
 #[derive(Clone)]
 pub struct Sent {
-    commands: Vec<Vec<Vec<u8>>>,
+    /// Name and arguments of each command.
+    pub commands: Vec<Vec<Vec<u8>>>,
     transaction: bool,
 }
 

@@ -13,6 +13,12 @@ use compare::sequence::Run;
 /// A buffer that is not short.
 pub const AMPLE: usize = 1 << 14;
 
+/// How many random sequences to try: SEQUENCES of them, 3,000 if not set.
+pub fn sequences() -> u64 {
+    let given = std::env::var("SEQUENCES").ok();
+    given.map_or(3000, |text| text.parse().expect("SEQUENCES is a number"))
+}
+
 /// A setup with ample space.
 pub fn setup(size: u64) -> Setup {
     Setup {
