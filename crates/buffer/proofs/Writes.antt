@@ -18,12 +18,9 @@ fill-turn s from i f h =
     let e : i + 1 - from ≡ k + 1 = omega arith in
     cc (put_next s z from i 0 (omega arith) h, replicate-append-replicate {A = ℕ} k 1 0)
 
--- a copy into the part of a slice from `at` on
-pub copy-law : (s src ys : Bytes) (at : ℕ) → at + length src ≤ length s → ys ≡ take (length src) src ++ drop (length src) (take (length s - at) (drop at s))
-    → take at s ++ (ys ++ drop (length s - at) (drop at s)) ≡ put s at src
+-- src in the place of as many bytes from `at` on
+pub copy-law : (s src ys : Bytes) (at to : ℕ) → to ≡ at + length src → ys ≡ src → take at s ++ (ys ++ drop (to - at) (drop at s)) ≡ put s at src
 unfolding put
-copy-law s src ys at h e =
-    let l : length (drop at s) ≡ length s - at = length-drop at s in
-    let a : take (length s - at) (drop at s) ≡ drop at s = take_all (length s - at) (drop at s) (omega arith) in
-    let b : drop (length s - at) (drop at s) ≡ [] = drop_of_length-le (drop at s) {i = length s - at} (omega arith) in
-    cc (take-length src, drop-drop (length src) at s, append-nil ys)
+copy-law s src ys at to t e =
+    let k : to - at ≡ length src = omega arith in
+    cc (drop-drop (length src) at s)

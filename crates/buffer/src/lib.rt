@@ -1,6 +1,8 @@
 // Bytes in lent slices: little-endian fields read and written at a place, ranges compared, zeroed, copied from another slice.
 //
 // A contract says what is there at exit by `put`, `part` and the other definitions of specs/, whose laws callers cite.
+#![tactic(auto)]
+
 ghost use Rattle.std.specs.Prelude.{◌≡◌, ◌+◌, ◌-◌, ◌≤◌, ◌<◌, length, eqb};
 ghost use Rattle.buffer.specs.Field.{le16, le32, le64, read16, read32, read64};
 ghost use Rattle.buffer.specs.Part.{part, put};
@@ -158,5 +160,5 @@ pub fn copy_to(s: &mut [u8], at: usize, src: &[u8])
     requires { at + length src.now ≤ length s.old }
     ensures { s.new ≡ put s.old at src.now }
 {
-    bytes::copy(src, &mut s[at..]);
+    s[at..at + src.len()].copy_from_slice(src);
 }

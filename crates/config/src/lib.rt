@@ -1,5 +1,7 @@
 // The limits as specs/Limits.antt defines them, the causes' numbers as specs/Causes.antt does, and the settings of a
 // call: cause 1, the shards and what each has (specs/Config.antt). After config.rs and the sizes of sharded_lru.rs.
+#![tactic(auto)]
+
 ghost use Rattle.std.specs.Prelude.{◌≡◌};
 ghost use Rattle.config.specs.Config.{shard_count, shard_size, shard_bytes, mode_of, checked};
 

@@ -1,11 +1,10 @@
 -- One pure law for each turn of a loop that moves a range, and for each function that calls such ones. Assumes nothing.
 use mathlib.Core.Path.{◌≡◌, refl, sym}
-use mathlib.Core.List.{[], ◌∷◌, ◌++◌, append_assoc, append-nil, reverse-append, reverse-reverse}
+use mathlib.Core.List.{[], ◌∷◌, ◌++◌, append_assoc, append-nil, reverse, reverse-append, reverse-reverse}
 use Prim.Native.Nat.{ℕ, ◌+◌, ◌-◌, ◌≤◌, ◌<◌, zero-le}
 use native.Mathlib.Omega.{arith}
 use lib.ListN.{length, get_or, take, drop, set, replicate, length-append, length-reverse}
 use lib.Seq.{take_at, drop_at, length-take-le}
-use Rattle.bytes.specs.Bytes.{rev, slice}
 use Rattle.buffer.specs.Same.{Bytes}
 use Rattle.buffer.specs.Part.{part, put}
 use Rattle.buffer.specs.PartLaws.{length_part, length-put, part-put, put-put, around-part, drop-part}
@@ -110,24 +109,19 @@ resize-law s from to end n a b h l =
 
 -- a middle piece reversed
 reversed-at : (P M Z : Bytes) (from to : ℕ) → length P ≡ from → from + length M ≡ to
-    → take from (P ++ (M ++ Z)) ++ (rev (slice from to (P ++ (M ++ Z))) ++ drop to (P ++ (M ++ Z))) ≡ P ++ (rev M ++ Z)
-unfolding slice
+    → take from (P ++ (M ++ Z)) ++ (reverse (part (P ++ (M ++ Z)) from (to - from)) ++ drop to (P ++ (M ++ Z))) ≡ P ++ (reverse M ++ Z)
+unfolding part
 reversed-at P M Z from to p m =
     let f : P ++ (M ++ Z) ≡ (P ++ M) ++ Z = sym (append_assoc P M Z) in
     let l : length (P ++ M) ≡ to = simp length-append (omega arith) in
     let a : take from (P ++ (M ++ Z)) ≡ P = take_at P (M ++ Z) from p in
-    let b : take to ((P ++ M) ++ Z) ≡ P ++ M = take_at (P ++ M) Z to l in
-    let c : drop from (P ++ M) ≡ M = drop_at P M from p in
+    let b : drop from (P ++ (M ++ Z)) ≡ M ++ Z = drop_at P (M ++ Z) from p in
+    let c : take (to - from) (M ++ Z) ≡ M = take_at M Z (to - from) (omega arith) in
     let d : drop to ((P ++ M) ++ Z) ≡ Z = drop_at (P ++ M) Z to l in
     cc
 
-length-rev : (M : Bytes) → length (rev M) ≡ length M
-unfolding rev
-length-rev M = length-reverse M
-
-rev-rev : (X Y : Bytes) → rev (rev X ++ rev Y) ≡ Y ++ X
-unfolding rev
-rev-rev X Y = simp (reverse-append, reverse-reverse)
+reverse-both : (X Y : Bytes) → reverse (reverse X ++ reverse Y) ≡ Y ++ X
+reverse-both X Y = simp (reverse-append, reverse-reverse)
 
 -- a list in the four pieces that a rotation sees
 in_pieces : (s : Bytes) (from mid end : ℕ) → from ≤ mid → mid ≤ end → s ≡ take from s ++ (part s from (mid - from) ++ (part s mid (end - mid) ++ drop end s))
@@ -138,9 +132,9 @@ in_pieces s from mid end a b =
 
 -- each range reversed, and then both as one
 pub rotate-law : (s s₁ s₂ s₃ : Bytes) (from mid end : ℕ) → from ≤ mid → mid ≤ end → end ≤ length s
-    → s₁ ≡ take from s ++ (rev (slice from mid s) ++ drop mid s)
-    → s₂ ≡ take mid s₁ ++ (rev (slice mid end s₁) ++ drop end s₁)
-    → s₃ ≡ take from s₂ ++ (rev (slice from end s₂) ++ drop end s₂)
+    → s₁ ≡ take from s ++ (reverse (part s from (mid - from)) ++ drop mid s)
+    → s₂ ≡ take mid s₁ ++ (reverse (part s₁ mid (end - mid)) ++ drop end s₁)
+    → s₃ ≡ take from s₂ ++ (reverse (part s₂ from (end - from)) ++ drop end s₂)
     → s₃ ≡ rotated s from mid end
 rotate-law s s₁ s₂ s₃ from mid end a b h e₁ e₂ e₃ =
     let P : Bytes = take from s in
@@ -150,19 +144,19 @@ rotate-law s s₁ s₂ s₃ from mid end a b h e₁ e₂ e₃ =
     let p : length P ≡ from = length-take-le from s (omega arith) in
     let x : length X ≡ mid - from = length_part s from (mid - from) (omega arith) in
     let y : length Y ≡ end - mid = length_part s mid (end - mid) (omega arith) in
-    let lx = length-rev X in
-    let ly = length-rev Y in
+    let lx = length-reverse X in
+    let ly = length-reverse Y in
     let q : s ≡ P ++ (X ++ (Y ++ Z)) = in_pieces s from mid end a b in
-    let f₁ : s₁ ≡ (P ++ rev X) ++ (Y ++ Z) = cc (reversed-at P X (Y ++ Z) from mid p (omega arith), append_assoc P (rev X) (Y ++ Z)) in
-    let f₂ : s₂ ≡ P ++ ((rev X ++ rev Y) ++ Z) =
+    let f₁ : s₁ ≡ (P ++ reverse X) ++ (Y ++ Z) = cc (reversed-at P X (Y ++ Z) from mid p (omega arith), append_assoc P (reverse X) (Y ++ Z)) in
+    let f₂ : s₂ ≡ P ++ ((reverse X ++ reverse Y) ++ Z) =
     cc (
-      reversed-at (P ++ rev X) Y Z mid end (simp length-append (omega arith)) (omega arith),
-      append_assoc P (rev X) (rev Y ++ Z),
-      append_assoc (rev X) (rev Y) Z,
+      reversed-at (P ++ reverse X) Y Z mid end (simp length-append (omega arith)) (omega arith),
+      append_assoc P (reverse X) (reverse Y ++ Z),
+      append_assoc (reverse X) (reverse Y) Z,
     ) in
     cc (
-      reversed-at P (rev X ++ rev Y) Z from end p (simp length-append (omega arith)),
-      rev-rev X Y,
+      reversed-at P (reverse X ++ reverse Y) Z from end p (simp length-append (omega arith)),
+      reverse-both X Y,
       append_assoc Y X Z,
       rotated-is s from mid end a b h,
     )

@@ -1,7 +1,10 @@
 // Ranges that move within one lent slice: copied to another place, resized, exchanged, rotated.
 //
 // The definitions (`moved`, `resized`, `exchanged`, `rotated`) and their laws stand in specs/Move.antt of crate buffer.
-ghost use Rattle.std.specs.Prelude.{◌≡◌, ◌+◌, ◌-◌, ◌≤◌, length};
+#![tactic(auto)]
+
+ghost use Rattle.std.specs.Prelude.{◌≡◌, ◌+◌, ◌-◌, ◌≤◌, ◌++◌, length, take, drop, reverse};
+ghost use Rattle.buffer.specs.Part.{part};
 ghost use Rattle.buffer.specs.Move.{moved, exchanged, resized, rotated};
 
 // Copies the n bytes at `from` to `to`, which is no higher: the first byte first.
@@ -69,6 +72,14 @@ fn exchange(s: &mut [u8], a: usize, b: usize, n: usize)
     }
 }
 
+// Reverses the bytes from `from` up to `to`.
+fn reverse(s: &mut [u8], from: usize, to: usize)
+    requires { (from ≤ to) × (to ≤ length s.old) }
+    ensures { s.new ≡ take from s.old ++ (reverse (part s.old from (to - from)) ++ drop to s.old) }
+{
+    s[from..to].reverse();
+}
+
 // What `rotate` does, by reversals: each range reversed, and then both as one; nothing where one of them is empty. Right for all ranges, and slow for
 // long ones.
 fn turn(s: &mut [u8], from: usize, mid: usize, end: usize)
@@ -81,9 +92,9 @@ fn turn(s: &mut [u8], from: usize, mid: usize, end: usize)
     if mid == end {
         return;
     }
-    bytes::reverse(s, from, mid);
-    bytes::reverse(s, mid, end);
-    bytes::reverse(s, from, end);
+    reverse(s, from, mid);
+    reverse(s, mid, end);
+    reverse(s, from, end);
 }
 
 // The smaller of two numbers.

@@ -1,5 +1,7 @@
 // Room in a lent buffer, counted down, so that nothing is summed up and nothing can wrap: planning's and resolving's dry passes find by it whether a buffer
 // is short (causes 5 and 8). specs/Room.antt says what is left.
+#![tactic(auto)]
+
 ghost use Rattle.std.specs.Prelude.{◌≡◌};
 ghost use Rattle.room.specs.Room.{spent};
 

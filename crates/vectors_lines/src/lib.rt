@@ -1,4 +1,6 @@
 // Lines of a text: the programs that try vectors read their input by them. A line ends before its line feed.
+#![tactic(auto)]
+
 ghost use Rattle.std.specs.Prelude.{◌≤◌, length};
 ghost use Rattle.vectors_lines.specs.Lines.{LineEnds};
 

@@ -1,0 +1,24 @@
+-- `buffer::or_range` meets its contract. The loop's invariant: the bits gathered are zero where the bytes passed are. Assumes nothing.
+use mathlib.Core.Path.{◌≡◌}
+use Prim.Native.Nat.{◌-◌, ◌≤◌}
+use native.Mathlib.Omega.{arith}
+use lib.Dec.{eqb}
+use Rattle.buffer.specs.Part.{part}
+use Rattle.buffer.specs.Zero.{all_zero}
+use Rattle.buffer.proofs.Tests.{zero_turn}
+use Rattle.buffer.proofs.or_range.Goals as goal
+
+pub loop-i-init : goal.loop-i-init
+unfolding part all_zero
+loop-i-init c = let e : c.args.from - c.args.from ≡ 0 = omega arith in (omega arith, omega arith, rw e)
+
+pub loop-i-preserved : goal.loop-i-preserved
+loop-i-preserved c =
+    let l = c.loop-i in
+    let a = c.args in
+    (omega arith, omega arith, zero_turn a.s.now a.from l.i l.x (omega arith) (omega arith) l.invariant.2)
+
+pub returns : goal.returns
+returns c =
+    let e : c.loop-i.i ≡ c.args.to = omega arith in
+    cc c.loop-i.invariant.2

@@ -1,0 +1,9 @@
+-- `ranges::rotate` meets its contract: nothing is to move where no bytes stand before the second range. Assumes nothing.
+use mathlib.Core.Path.{sym}
+use native.Mathlib.Omega.{arith}
+use Rattle.ranges.proofs.Moves.{rotated-first}
+use borrow.Author.Rules.{rules}
+use Rattle.ranges.proofs.rotate.Goals as goal
+
+pub returns-then-mid-from : goal.returns-then-mid-from
+returns-then-mid-from c = rotated-first _ _ _ _ (sym c.if-mid-from.true) (omega arith) (omega arith)
