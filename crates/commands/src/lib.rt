@@ -1,6 +1,8 @@
 // Which commands' answers may be cached: `command_properties` cut to its ReadOnlyCacheable arm, without the names that request 5 takes
 // off it, and `is_multi_key`.
 // specs/Names.antt and specs/MultiKey.antt have the definitions. Names are compared byte for byte, so only capitals are names.
+#![tactic(auto)]
+
 ghost use Rattle.std.specs.Prelude.{◌≡◌, List, length};
 ghost use Rattle.buffer.specs.Same.{Bytes};
 ghost use Rattle.commands.specs.Names.{member, is_cacheable, takes_sole_key};

@@ -1,5 +1,7 @@
 // SipHash-1-3 with both key words zero, over the bytes of a slice (specs/Sip.antt), and a key's shard (specs/Shard.antt). This is what
 // Rust's `DefaultHasher` answers where the bytes are written to it, as `get_shard` of sharded_lru.rs does.
+#![tactic(auto)]
+
 ghost use Rattle.std.specs.Prelude.{◌≡◌, ◌+◌, ◌*◌, ◌^◌, ◌<◌};
 ghost use Rattle.siphash.specs.Sip.{rotated, sip_round, initial, compressed, last_word, finished, sip_hash13};
 ghost use Rattle.siphash.specs.Shard.{shard_of};
@@ -14,6 +16,7 @@ struct Sip {
 }
 
 // A word rotated to the left.
+#[tactic(auto, unfolding(crate::specs::Sip::rotated))]
 fn rotl(x: u64, k: u64) -> u64
     requires { (0 < k) × (k < 64) }
     ensures { result ≡ rotated x k }
@@ -23,6 +26,7 @@ fn rotl(x: u64, k: u64) -> u64
 
 impl Sip {
     // The state before the first word: the paper's four constants, since the key words are zero.
+    #[tactic(auto, unfolding(crate::specs::Sip::initial))]
     fn new() -> Sip
         ensures { result ≡ initial 0 0 }
     {
@@ -34,6 +38,7 @@ impl Sip {
         }
     }
 
+    #[tactic(auto, unfolding(crate::specs::Sip::sip_round))]
     fn sip_round(self) -> Sip
         ensures { result ≡ sip_round self }
     {
@@ -54,6 +59,7 @@ impl Sip {
     }
 
     // One word of the message goes in, by one round.
+    #[tactic(auto, unfolding(crate::specs::Sip::compressed, crate::specs::Sip::rounds))]
     fn compress(self, m: u64) -> Sip
         ensures { result ≡ compressed 1 self m }
     {
@@ -73,6 +79,7 @@ impl Sip {
     }
 
     // The hash, by three rounds.
+    #[tactic(auto, unfolding(crate::specs::Sip::finished, crate::specs::Sip::rounds))]
     fn finish(self) -> u64
         ensures { result ≡ finished 3 self }
     {
