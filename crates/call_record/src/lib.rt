@@ -1,5 +1,7 @@
 // The call record: the check, which answers the first wrong offset. What a record is stands in specs/Record.antt, what the offset means in
 // specs/Offset.antt, with the theorems in specs/Check.antt. Each function here goes by the format of the same name.
+#![tactic(auto)]
+
 ghost use Rattle.std.specs.Prelude.{◌≡◌, ◌+◌, ◌≤◌, ◌<◌, length};
 ghost use Rattle.format.specs.Skips.{skip_end};
 ghost use Rattle.format.specs.Places.{number_end, word_end};
