@@ -1,5 +1,7 @@
 // RESP3 values in bytes: where a value ends, and whether bytes are exactly one value.
 // specs/Value.antt says what a value is and how it is written; specs/Law.antt that this reader and that writing agree.
+#![tactic(auto)]
+
 ghost use Rattle.std.specs.Prelude.{◌≡◌, true, ◌+◌, ◌-◌, ◌≤◌, length, get_or};
 ghost use Rattle.buffer.specs.Same.{same};
 ghost use Rattle.buffer.specs.Part.{part, put};
@@ -61,6 +63,7 @@ pub enum Shape {
 }
 
 // The kind that begins with the byte b.
+#[tactic(auto, unfolding(crate::specs::Kinds::kind_of))]
 pub fn kind_of(b: u8) -> Kind
     ensures { result ≡ kind_of b }
 {

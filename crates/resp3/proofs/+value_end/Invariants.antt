@@ -1,0 +1,14 @@
+-- `resp3::value_end`, which calls itself, meets its contract. The measure is the depth; the loop's invariant: what is left to read is the whole. Assumes nothing.
+use mathlib.Core.Path.{◌≡◌}
+use Prim.Native.Nat.{◌-◌}
+use Rattle.resp3.specs.Ends.{value_end, items_end}
+use Rattle.resp3.proofs.+value_end.Given as goal
+
+abbrev pub decreases-value_end : goal.decreases-value_end
+decreases-value_end l = l.depth
+
+abbrev pub invariant-loop-left : goal.invariant-loop-left
+invariant-loop-left l = value_end l.depth l.s l.at ≡ items_end (l.depth - 1) l.s l.left l.q
+
+abbrev pub decreases-loop-left : goal.decreases-loop-left
+decreases-loop-left l = l.left

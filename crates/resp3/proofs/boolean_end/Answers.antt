@@ -1,0 +1,15 @@
+use mathlib.Core.Path.{sym, ◌∙◌}
+use Rattle.resp3.specs.Paths as paths
+use Rattle.resp3.proofs.boolean_end.Goals as goal
+
+pub returns-then-at-s : goal.returns-then-at-s
+returns-then-at-s c = sym (paths.bool-out _ _ c.if-at-s.true)
+
+pub returns-then-s-at-eq116 : goal.returns-then-s-at-eq116
+returns-then-s-at-eq116 c = c.crlf_end.ensures ∙ sym (paths.bool-t _ _ c.if-s-at-eq116.true)
+
+pub returns-then-s-at-eq102 : goal.returns-then-s-at-eq102
+returns-then-s-at-eq102 c = c.crlf_end-then-s-at-eq102.ensures ∙ sym (paths.bool-f _ _ c.if-s-at-eq102.true)
+
+pub returns : goal.returns
+returns c = sym (paths.bool-else _ _ c.if-s-at-eq116.false c.if-s-at-eq102.false)

@@ -1,0 +1,13 @@
+use mathlib.Core.Path.{sym}
+use Rattle.resp3.specs.Paths as paths
+use Rattle.resp3.proofs.plain_at.Goals as goal
+
+pub returns-then-i-s : goal.returns-then-i-s
+returns-then-i-s c = sym (paths.plain_out c.args.s.now c.args.i c.if-i-s.true)
+
+pub returns-then-b-eq13 : goal.returns-then-b-eq13
+returns-then-b-eq13 c = sym (paths.plain-cr c.args.s.now c.args.i c.if-i-s.false c.if-b-eq13.true)
+
+pub returns : goal.returns
+returns c =
+    sym (paths.plain-else c.args.s.now c.args.i c.if-i-s.false c.if-b-eq13.false)
