@@ -1,10 +1,10 @@
 -- One pure law for a turn of `fill_zero` and one for `copy_to`. Assumes nothing.
 use mathlib.Core.Path.{◌≡◌}
-use mathlib.Core.List.{[], ◌++◌, append-nil}
+use mathlib.Core.List.{◌++◌}
 use Prim.Native.Nat.{ℕ, ◌+◌, ◌-◌, ◌≤◌, ◌<◌}
 use native.Mathlib.Omega.{arith}
-use lib.ListN.{length, take, drop, set, replicate, length-drop, length-replicate, drop_of_length-le, replicate-append-replicate}
-use lib.Seq.{take_all, take-length, drop-drop}
+use lib.ListN.{length, take, drop, set, replicate, length-replicate, replicate-append-replicate}
+use lib.Seq.{drop-drop}
 use Rattle.buffer.specs.Same.{Bytes}
 use Rattle.buffer.specs.Part.{put}
 use Rattle.buffer.specs.Step.{put_next}

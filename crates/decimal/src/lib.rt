@@ -1,5 +1,7 @@
 // A u64 in decimal digits: how many there are, the digits written, and canonical digits with their CR LF read back.
 // specs/Digits.antt says what a number's digits are, specs/Ranges.antt which numbers have so many, specs/Read.antt what reading finds.
+#![tactic(auto)]
+
 ghost use Rattle.std.specs.Prelude.{◌≡◌, ◌+◌, ◌≤◌, ltb, length, get_or};
 ghost use Rattle.buffer.specs.Part.{put};
 ghost use Rattle.decimal.specs.Digits.{digits};

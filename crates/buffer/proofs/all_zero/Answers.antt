@@ -1,10 +1,8 @@
 -- `buffer::all_zero` meets its contract. The loop's invariant: the test of the range is the test of what is left. Assumes nothing.
-use mathlib.Core.Path.{◌≡◌, refl, sym, ◌∙◌}
-use Prim.Native.Nat.{◌+◌, ◌-◌, ◌≤◌}
+use mathlib.Core.Path.{refl, sym, ◌∙◌}
+use Prim.Native.Nat.{◌+◌}
 use native.Mathlib.Omega.{arith}
 use borrow.Author.Tests.{eq-eqb, ne_eqb}
-use Rattle.buffer.specs.Part.{part}
-use Rattle.buffer.specs.Zero.{all_zero}
 use Rattle.buffer.proofs.Tests.{zero-block}
 use Rattle.buffer.proofs.all_zero.Goals as goal
 

@@ -1,8 +1,7 @@
 -- `buffer::differ` meets its contract. The loop's invariant: the bits gathered are zero where the bytes passed are the same. Assumes nothing.
 use mathlib.Core.Path.{◌≡◌}
-use Prim.Native.Nat.{◌-◌, ◌≤◌}
+use Prim.Native.Nat.{◌-◌}
 use native.Mathlib.Omega.{arith}
-use lib.Dec.{eqb}
 use Rattle.buffer.specs.Part.{part}
 use Rattle.buffer.specs.Same.{same}
 use Rattle.buffer.proofs.Tests.{same_turn}

@@ -1,9 +1,8 @@
 -- `buffer::fill_zero` meets its contract. The loop's invariant: zeros are put from `from` up to i. Assumes nothing.
 use mathlib.Core.Path.{◌≡◌, sym}
-use Prim.Native.Nat.{◌-◌, ◌≤◌}
+use Prim.Native.Nat.{◌-◌}
 use native.Mathlib.Omega.{arith}
-use lib.ListN.{length, replicate, length-set}
-use Rattle.buffer.specs.Part.{put}
+use lib.ListN.{length-set}
 use Rattle.buffer.specs.Step.{put-nil}
 use Rattle.buffer.proofs.Writes.{fill-turn}
 use Rattle.buffer.proofs.fill_zero.Goals as goal

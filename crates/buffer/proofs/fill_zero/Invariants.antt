@@ -1,11 +1,8 @@
 -- `buffer::fill_zero` meets its contract. The loop's invariant: zeros are put from `from` up to i. Assumes nothing.
-use mathlib.Core.Path.{◌≡◌, sym}
+use mathlib.Core.Path.{◌≡◌}
 use Prim.Native.Nat.{◌-◌, ◌≤◌}
-use native.Mathlib.Omega.{arith}
-use lib.ListN.{length, replicate, length-set}
+use lib.ListN.{length, replicate}
 use Rattle.buffer.specs.Part.{put}
-use Rattle.buffer.specs.Step.{put-nil}
-use Rattle.buffer.proofs.Writes.{fill-turn}
 use Rattle.buffer.proofs.fill_zero.Given as goal
 
 abbrev pub invariant-loop-i : goal.invariant-loop-i

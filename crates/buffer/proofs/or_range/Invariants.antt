@@ -1,11 +1,9 @@
 -- `buffer::or_range` meets its contract. The loop's invariant: the bits gathered are zero where the bytes passed are. Assumes nothing.
 use mathlib.Core.Path.{◌≡◌}
 use Prim.Native.Nat.{◌-◌, ◌≤◌}
-use native.Mathlib.Omega.{arith}
 use lib.Dec.{eqb}
 use Rattle.buffer.specs.Part.{part}
 use Rattle.buffer.specs.Zero.{all_zero}
-use Rattle.buffer.proofs.Tests.{zero_turn}
 use Rattle.buffer.proofs.or_range.Given as goal
 
 abbrev pub invariant-loop-i : goal.invariant-loop-i

@@ -1,5 +1,4 @@
 -- `buffer::read_u32` meets its contract: a field is its two halves (`read-add`). Assumes nothing.
-use borrow.Author.Rules.{rules}
 use native.Mathlib.Omega.{arith}
 use Rattle.buffer.specs.FieldLaws.{read-add}
 use Rattle.buffer.proofs.read_u32.Goals as goal

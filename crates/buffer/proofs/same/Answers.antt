@@ -1,11 +1,10 @@
 -- `buffer::same` meets its contract. The loop's invariant: the test of the whole is the test of what is left. Assumes nothing.
-use mathlib.Core.Path.{◌≡◌, refl, sym, ◌∙◌}
-use Prim.Native.Nat.{◌+◌, ◌-◌, ◌≤◌}
+use mathlib.Core.Path.{refl, sym, ◌∙◌}
+use Prim.Native.Nat.{◌+◌, ◌-◌}
 use native.Mathlib.Omega.{arith}
-use lib.ListN.{length, drop}
+use lib.ListN.{length}
 use borrow.Author.Tests.{eq-eqb, ne_eqb}
 use Rattle.buffer.specs.PartLaws.{part-rest}
-use Rattle.buffer.specs.Same.{same}
 use Rattle.buffer.specs.SameLaws.{same_length}
 use Rattle.buffer.proofs.Tests.{same_block}
 use Rattle.buffer.proofs.same.Goals as goal

@@ -1,13 +1,8 @@
 -- `buffer::same` meets its contract. The loop's invariant: the test of the whole is the test of what is left. Assumes nothing.
-use mathlib.Core.Path.{◌≡◌, refl, sym, ◌∙◌}
-use Prim.Native.Nat.{◌+◌, ◌-◌, ◌≤◌}
-use native.Mathlib.Omega.{arith}
+use mathlib.Core.Path.{◌≡◌}
+use Prim.Native.Nat.{◌-◌, ◌≤◌}
 use lib.ListN.{length, drop}
-use borrow.Author.Tests.{eq-eqb, ne_eqb}
-use Rattle.buffer.specs.PartLaws.{part-rest}
 use Rattle.buffer.specs.Same.{same}
-use Rattle.buffer.specs.SameLaws.{same_length}
-use Rattle.buffer.proofs.Tests.{same_block}
 use Rattle.buffer.proofs.same.Given as goal
 
 abbrev pub invariant-loop-i : goal.invariant-loop-i

@@ -4,7 +4,6 @@ use Prim.Native.Nat.{◌+◌, ◌-◌}
 use native.Mathlib.Omega.{arith}
 use lib.ListN.{length}
 use Rattle.buffer.specs.Part.{part}
-use borrow.Author.Rules.{rules}
 use Rattle.buffer.proofs.same_at.Goals as goal
 
 pub returns : goal.returns

@@ -1,5 +1,4 @@
 -- `buffer::write_u16` meets its contract: two stores write a field of two bytes (`two-stores`). Assumes nothing.
-use borrow.Author.Rules.{rules}
 use native.Mathlib.Omega.{arith}
 use lib.ListN.{length-set}
 use Rattle.buffer.proofs.Fields.{two-stores}

@@ -1,5 +1,4 @@
 -- `buffer::write_u32` meets its contract: two halves write a field (`two-halves`). Assumes nothing.
-use borrow.Author.Rules.{rules}
 use Rattle.buffer.proofs.Fields.{two-halves}
 use native.Mathlib.Omega.{arith}
 use Rattle.buffer.proofs.write_u32.Goals as goal

@@ -3,7 +3,6 @@ use native.Mathlib.Omega.{arith}
 use borrow.Author.Tests.{lt-ltb, le-ltb}
 use Rattle.config.specs.Laws.{count-bounds}
 use Rattle.config.specs.Config.{checked, refused, settings_of}
-use borrow.Author.Rules.{rules}
 use Rattle.config.proofs.check_config.Goals as goal
 
 pub returns-then-size-lt1 : goal.returns-then-size-lt1

@@ -1,7 +1,6 @@
 -- `shard_bytes` meets its contract: there is always a shard to divide by. Assumes nothing.
 use native.Mathlib.Omega.{arith}
 use Rattle.config.specs.Laws.{count-bounds}
-use borrow.Author.Rules.{rules}
 use Rattle.config.proofs.shard_bytes.Goals as goal
 
 pub nonzero_div-result : goal.nonzero_div-result

@@ -3,7 +3,6 @@ use Prim.Native.Nat.{◌-◌}
 use native.Mathlib.Omega.{arith}
 use Rattle.buffer.specs.Part.{part}
 use Rattle.ranges.proofs.Moves.{carry-law}
-use borrow.Author.Rules.{rules}
 use Rattle.ranges.proofs.carry.Goals as goal
 
 pub returns : goal.returns

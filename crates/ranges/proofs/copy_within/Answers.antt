@@ -1,7 +1,6 @@
 -- `ranges::copy_within` meets its contract: a range copied to its own place changes nothing. Assumes nothing.
 use native.Mathlib.Omega.{arith}
 use Rattle.ranges.proofs.Moves.{moved_back}
-use borrow.Author.Rules.{rules}
 use Rattle.ranges.proofs.copy_within.Goals as goal
 
 pub returns-then-to-from : goal.returns-then-to-from

@@ -1,9 +1,7 @@
 -- `ranges::exchange` meets its contract. The loop's invariant: the first i bytes of the two ranges are exchanged. Assumes nothing.
 use mathlib.Core.Path.{◌≡◌}
-use Prim.Native.Nat.{◌-◌, ◌≤◌}
 use native.Mathlib.Omega.{arith}
-use lib.ListN.{length, length-set}
-use Rattle.buffer.specs.Move.{exchanged}
+use lib.ListN.{length-set}
 use Rattle.ranges.proofs.Exchanges.{exchange-none, exchange-turn}
 use Rattle.ranges.proofs.exchange.Goals as goal
 

@@ -1,10 +1,8 @@
 -- `ranges::exchange` meets its contract. The loop's invariant: the first i bytes of the two ranges are exchanged. Assumes nothing.
 use mathlib.Core.Path.{◌≡◌}
 use Prim.Native.Nat.{◌-◌, ◌≤◌}
-use native.Mathlib.Omega.{arith}
-use lib.ListN.{length, length-set}
+use lib.ListN.{length}
 use Rattle.buffer.specs.Move.{exchanged}
-use Rattle.ranges.proofs.Exchanges.{exchange-none, exchange-turn}
 use Rattle.ranges.proofs.exchange.Given as goal
 
 abbrev pub invariant-loop-i : goal.invariant-loop-i

@@ -1,9 +1,7 @@
 -- `ranges::move_down` meets its contract. The loop's invariant: the first i bytes are moved. Assumes nothing.
 use mathlib.Core.Path.{◌≡◌}
-use Prim.Native.Nat.{◌-◌, ◌≤◌}
 use native.Mathlib.Omega.{arith}
-use lib.ListN.{length, length-set}
-use Rattle.buffer.specs.Move.{moved}
+use lib.ListN.{length-set}
 use Rattle.ranges.proofs.Moves.{down-none, down_turn}
 use Rattle.ranges.proofs.move_down.Goals as goal
 

@@ -1,10 +1,8 @@
 -- `ranges::move_down` meets its contract. The loop's invariant: the first i bytes are moved. Assumes nothing.
 use mathlib.Core.Path.{◌≡◌}
 use Prim.Native.Nat.{◌-◌, ◌≤◌}
-use native.Mathlib.Omega.{arith}
-use lib.ListN.{length, length-set}
+use lib.ListN.{length}
 use Rattle.buffer.specs.Move.{moved}
-use Rattle.ranges.proofs.Moves.{down-none, down_turn}
 use Rattle.ranges.proofs.move_down.Given as goal
 
 abbrev pub invariant-loop-i : goal.invariant-loop-i

@@ -1,9 +1,9 @@
 -- `ranges::move_up` meets its contract. The loop's invariant: all but the first k bytes are moved. Assumes nothing.
 use mathlib.Core.Path.{◌≡◌}
-use Prim.Native.Nat.{◌+◌, ◌-◌, ◌≤◌}
+use Prim.Native.Nat.{◌+◌, ◌-◌}
 use native.Mathlib.Omega.{arith}
-use lib.ListN.{length, length-set}
-use Rattle.ranges.proofs.Moves.{up_from, up_none, up_turn, up-all}
+use lib.ListN.{length-set}
+use Rattle.ranges.proofs.Moves.{up_none, up_turn, up-all}
 use Rattle.ranges.proofs.move_up.Goals as goal
 
 pub loop-k-init : goal.loop-k-init

@@ -1,9 +1,8 @@
 -- `ranges::move_up` meets its contract. The loop's invariant: all but the first k bytes are moved. Assumes nothing.
 use mathlib.Core.Path.{◌≡◌}
-use Prim.Native.Nat.{◌+◌, ◌-◌, ◌≤◌}
-use native.Mathlib.Omega.{arith}
-use lib.ListN.{length, length-set}
-use Rattle.ranges.proofs.Moves.{up_from, up_none, up_turn, up-all}
+use Prim.Native.Nat.{◌≤◌}
+use lib.ListN.{length}
+use Rattle.ranges.proofs.Moves.{up_from}
 use Rattle.ranges.proofs.move_up.Given as goal
 
 abbrev pub invariant-loop-k : goal.invariant-loop-k

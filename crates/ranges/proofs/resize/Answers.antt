@@ -1,7 +1,6 @@
 -- `ranges::resize` meets its contract: the tail is moved, and then what is freed is zeroed (`resize-law`). Assumes nothing.
 use native.Mathlib.Omega.{arith}
 use Rattle.ranges.proofs.Moves.{resize-law}
-use borrow.Author.Rules.{rules}
 use Rattle.ranges.proofs.resize.Goals as goal
 
 pub returns : goal.returns

@@ -2,7 +2,6 @@
 use mathlib.Core.Path.{sym}
 use native.Mathlib.Omega.{arith}
 use Rattle.ranges.proofs.Moves.{rotated-first}
-use borrow.Author.Rules.{rules}
 use Rattle.ranges.proofs.rotate.Goals as goal
 
 pub returns-then-mid-from : goal.returns-then-mid-from

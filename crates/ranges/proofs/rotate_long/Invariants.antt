@@ -1,11 +1,8 @@
 -- `ranges::rotate_long` meets its contract. The loop's invariant: rotating what is left gives what rotating the whole would have given. Assumes nothing.
-use mathlib.Core.Path.{◌≡◌, refl}
-use Prim.Native.Nat.{◌+◌, ◌-◌, ◌≤◌}
-use native.Mathlib.Omega.{arith}
+use mathlib.Core.Path.{◌≡◌}
+use Prim.Native.Nat.{◌-◌, ◌≤◌}
 use lib.ListN.{length}
-use borrow.Author.Rules.{rules}
 use Rattle.buffer.specs.Move.{rotated}
-use Rattle.ranges.proofs.Exchanges.{first-placed, second-placed}
 use Rattle.ranges.proofs.rotate_long.Given as goal
 
 abbrev pub invariant-loop-n : goal.invariant-loop-n

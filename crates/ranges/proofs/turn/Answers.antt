@@ -1,7 +1,6 @@
 -- `ranges::turn` meets its contract: three reversals (`rotate-law`), or nothing where a range is empty. Assumes nothing.
 use native.Mathlib.Omega.{arith}
 use Rattle.ranges.proofs.Moves.{rotated-first, rotated-second, rotate-law}
-use borrow.Author.Rules.{rules}
 use Rattle.ranges.proofs.turn.Goals as goal
 
 pub returns-then-from-mid : goal.returns-then-from-mid

@@ -1,9 +1,8 @@
 -- `vectors_lines::line_end` meets its contract. The loop's invariant: no line feed stands between the line's start and the place that is reached. Assumes
 -- nothing.
-use mathlib.Core.Path.{◌≡◌, subst}
+use mathlib.Core.Path.{◌≡◌}
 use mathlib.Core.List.{List}
-use Prim.Native.Nat.{ℕ, ◌+◌, ◌-◌, ◌≤◌, ◌<◌}
-use native.Mathlib.Omega.{arith}
+use Prim.Native.Nat.{ℕ, ◌-◌, ◌≤◌, ◌<◌}
 use lib.ListN.{length, get_or}
 use Rattle.vectors_lines.proofs.line_end.Given as goal
 

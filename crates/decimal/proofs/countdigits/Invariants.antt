@@ -1,0 +1,12 @@
+-- `decimal::countdigits` meets its contract: on the way up v has as many digits as the range that is looked at or more, on the way down as many or fewer. Assumes
+-- nothing.
+use Prim.Native.Nat.{◌≤◌, ◌<◌}
+use lib.ListN.{length}
+use Rattle.decimal.specs.Digits.{digits}
+use Rattle.decimal.proofs.countdigits.Given as goal
+
+abbrev pub invariant-loop-n : goal.invariant-loop-n
+invariant-loop-n l = (4 < length (digits l.v)) × (length (digits l.v) ≤ l.n) × (l.n ≤ 20)
+
+abbrev pub decreases-loop-n : goal.decreases-loop-n
+decreases-loop-n l = l.n
