@@ -123,8 +123,12 @@ module _ (size mode ttl : ℕ) (s : Bytes) (e : refused size mode (length s) ≡
 
 -- ---- the book's answers
 
+served-so : (v : Bytes) → served_by (hit v) ≡ some v
+unfolding served_by
+served-so v = refl
+
 served-means : (a : Answer) (v : Bytes) → (served_by a ≡ some v) ↔ (a ≡ hit v)
-served-means a v = (served-only a, λ e. unfold served_by in ap served_by e)
+served-means a v = (served-only a, λ e. ap served_by e ∙ served-so v)
   where
     served-only : (a : Answer) → served_by a ≡ some v → a ≡ hit v
     served-only (hit u) e = ap hit (some-injective u v (unfold served_by in e))
