@@ -8,8 +8,6 @@ use Rattle.std.proofs.Math.Option.{none, some, none-ne-some, some-injective}
 use Rattle.buffer.specs.Cases.{by_test}
 use Rattle.buffer.specs.Same.{Bytes, same}
 use Rattle.buffer.specs.SameLaws.{same_refl, same-eq}
-use Rattle.book.specs.CallCases.{refused-between}
-use Rattle.book.specs.ResidenceCases.{all-in-common}
 use Rattle.book.specs.Book.{Entry, Item, Row, find, without, replace, without_oldest, value_for, set_value}
 use Rattle.book.specs.Sound.{Distinct}
 

@@ -1,11 +1,13 @@
 // The counts of hits, misses and invalidated entries: they wrap at 64 bits (specs/Counts.antt). After statistics.rs, whose atomics are here a state that goes
 // in and comes back, and a record that the caller lends: an increase of a lent record is thin over the one by value.
+#![tactic(auto)]
+
 ghost use Rattle.std.specs.Prelude.{◌≡◌};
 ghost use Rattle.statistics.specs.Counts.{more_hit, more_miss, more_invalidate, more_of, more, reading};
 
 // The counts as they are kept.
 #[repr(C)]
-#[derive(Drop)]
+#[derive(Clone, Copy)]
 pub struct Statistics {
     pub hit: u64,
     pub miss: u64,
@@ -14,7 +16,7 @@ pub struct Statistics {
 
 // The counts as they are read.
 #[repr(C)]
-#[derive(Drop)]
+#[derive(Clone, Copy)]
 pub struct CacheStatistics {
     pub hit: u64,
     pub miss: u64,
