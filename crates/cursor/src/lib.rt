@@ -1,5 +1,7 @@
 // Cursors over the commands of a call record and over a command's arguments, in the order of `args_iter`. The record was checked:
 // specs/At.antt says what stands at a place, and that this is the record is the theorem `decoded` of specs/Laws.antt.
+#![tactic(auto)]
+
 ghost use Rattle.std.specs.Prelude.{◌≡◌, ◌+◌, ◌≤◌, length};
 ghost use Rattle.call_record.specs.Record.{transaction};
 ghost use Rattle.cursor.specs.At.{range_bytes, RangeIn, args_at, args_end, ArgsIn, args_of, ArgsHere, head_at, CommandsHere, command_cursor, record_at};
@@ -7,28 +9,28 @@ ghost use Rattle.cursor.specs.Steps.{arg_step, command_step};
 ghost use Rattle.cursor.specs.Index.{arg_idx, arg_idx_from, found_text, FoundIn};
 
 // A part of a slice: from `start` up to, not including, `end`.
-#[derive(Drop)]
+#[derive(Clone, Copy)]
 pub struct Range {
     pub start: usize,
     pub end: usize,
 }
 
 // A cursor over arguments: where the next one stands, and how many are left.
-#[derive(Drop)]
+#[derive(Clone, Copy)]
 pub struct Args {
     pub at: usize,
     pub left: usize,
 }
 
 // A cursor over commands: where the next one stands, and how many are left.
-#[derive(Drop)]
+#[derive(Clone, Copy)]
 pub struct Commands {
     pub at: usize,
     pub left: usize,
 }
 
 // A command's fields, with a cursor over its arguments.
-#[derive(Drop)]
+#[derive(Clone, Copy)]
 pub struct Head {
     pub flags: u8,
     pub ttl: u64,
@@ -37,7 +39,7 @@ pub struct Head {
 }
 
 // The next argument, where there is one: its bytes' place, or the cursor; and a cursor over those behind it.
-#[derive(Drop)]
+#[derive(Clone, Copy)]
 pub enum NextArg {
     Done,
     Simple(Range, Args),
@@ -45,14 +47,14 @@ pub enum NextArg {
 }
 
 // The next command, where there is one, and a cursor over those behind it.
-#[derive(Drop)]
+#[derive(Clone, Copy)]
 pub enum NextCommand {
     Done,
     Command(Head, Commands),
 }
 
 // An argument's bytes, where it is there.
-#[derive(Drop)]
+#[derive(Clone, Copy)]
 pub enum ArgAt {
     Found(Range),
     NotThere,
