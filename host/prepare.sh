@@ -59,6 +59,6 @@ static_library() {
     local log
     command -v rt >/dev/null 2>&1 || return 1
     log=$(mktemp)
-    (cd .. && rt staticlib "$1") >"$log" 2>&1 || { tail -n 20 "$log"; stop "rt staticlib $1 failed"; }
+    ../staticlib "$1" >"$log" 2>&1 || { tail -n 20 "$log"; stop "./staticlib $1 failed"; }
     rm -f "$log"
 }

@@ -1,4 +1,4 @@
-//! Links a static library of proved crates; taken in by the build scripts. `rt staticlib NAME` writes target/staticlib/libNAME.a at
+//! Links a static library of proved crates; taken in by the build scripts. `./staticlib NAME` writes target/staticlib/libNAME.a at
 //! the repository's root; STATICLIB names another folder.
 
 use std::path::{Path, PathBuf};
@@ -14,7 +14,7 @@ pub fn link(name: &str) {
     println!("cargo::rerun-if-changed={}", archive.display());
     if !archive.is_file() {
         println!(
-            "cargo::warning=lib{name}.a is not built yet: run 'rt staticlib {name}' at the repository's root before what links it \
+            "cargo::warning=lib{name}.a is not built yet: run './staticlib {name}' at the repository's root before what links it \
              ('cargo check' and 'cargo doc' do without it)"
         );
     }

@@ -1,4 +1,4 @@
-/* The cache's C linkage: `rt staticlib caching` makes the library. Every function is proved to meet its contract, which stands above its code in
+/* The cache's C linkage: `./staticlib caching` makes the library. Every function is proved to meet its contract, which stands above its code in
  * crates/caching/src/ (one file for each, but lib.rt has setup, the single calls and the counts). docs/BEHAVIOUR.md has the rules.
  *
  * Common to the calls that take them:
