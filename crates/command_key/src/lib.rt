@@ -1,5 +1,7 @@
 // Command keys: a value that says how a command key's bytes are gathered from a source, since they stand nowhere in one piece. Length,
 // comparison and copy are each one function over it; specs/Key.antt says which bytes it stands for.
+#![tactic(auto)]
+
 ghost use Rattle.std.specs.Prelude.{◌≡◌, ◌++◌, ◌+◌, ◌≤◌, length};
 ghost use Rattle.buffer.specs.Same.{same};
 ghost use Rattle.buffer.specs.Part.{part, put};
