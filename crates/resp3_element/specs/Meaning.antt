@@ -11,7 +11,7 @@ use Rattle.resp3.specs.declared.Kind.TheVariants.{BlobString, SimpleString, Simp
 use Rattle.resp3.specs.declared.Kind.TheVariants.{BigNumber, Array, Map, Set, Attribute, Push}
 use Rattle.resp3.specs.Kinds.{byte_of}
 use Rattle.resp3.specs.Value.{Value, Values, blob_string, simple_string, simple_error, number, null_as, double, boolean, blob_error, verbatim_string}
-use Rattle.resp3.specs.Value.{big_number, array, map, set, attribute, push, none, count, deepest, Valids, encs}
+use Rattle.resp3.specs.Value.{big_number, array, map, set, attribute, push, count, deepest, Valids, encs}
 use Rattle.resp3.specs.Rows.{tail_of}
 use Rattle.resp3_element.specs.declared.Cursor.{Cursor}
 use Rattle.resp3_element.specs.declared.Elements.{Elements}

@@ -1,6 +1,8 @@
 // What planning, resolving and pushes ask of a checked RESP3 value: its kind, its elements, its integer, its bytes.
 // Callers give a slice that is exactly one value; elements and blobs are handed out as parts of it.
 // specs/Meaning.antt says what each answer means for the value that the bytes are, specs/Places.antt what it is for any bytes.
+#![tactic(auto)]
+
 ghost use Rattle.std.specs.Prelude.{◌≡◌, ◌-◌, ◌≤◌, ◌<◌, ◌^◌, get_or, pos, negsuc};
 ghost use Rattle.buffer.specs.Part.{part};
 ghost use Rattle.resp3.specs.Value.{Value, Values, more, Means};
