@@ -20,7 +20,6 @@ use Rattle.arena.specs.Around.{shard-part}
 use Rattle.arena.specs.Tests.{WellFormed}
 use Rattle.arena.specs.Image.{Sized}
 use Rattle.arena.specs.Place.{entries_place, items_place, shard_place, arena_place}
-use Rattle.arena.specs.Cases.{place-second}
 
 -- ---- among entries
 
