@@ -1,6 +1,8 @@
 // Commands packed as RESP3 arrays of blobs (cmd.rs: `args_len`, `write_command`): a command of a record, and the fixed commands. What is packed
 // is one RESP3 value, which the reader reads back: specs/Pack.antt. Every writer writes exactly those bytes at the place, leaves the rest
 // of the buffer as it was, and answers the place behind them.
+#![tactic(auto)]
+
 ghost use Rattle.std.specs.Prelude.{◌≡◌, ℕ, ◌+◌, ◌≤◌, length};
 ghost use Rattle.buffer.specs.Part.{put};
 ghost use Rattle.config.specs.Limits.{max_bytes, max_arguments};

@@ -2,11 +2,7 @@
 use mathlib.Core.Path.{sym, ap}
 use lib.ListN.{length}
 use Rattle.cmd.specs.Laws.{exec-is}
-use Rattle.cmd.proofs.exec_len.Statement.{statement}
-use Rattle.cmd.proofs.exec_len.Tie as tie
+use Rattle.cmd.proofs.exec_len.Goals as goal
 
-returns : tie.Need-returns
+pub returns : goal.returns
 returns c = sym (ap length exec-is)
-
-pub exec-len-spec : {M : Type 1} → statement M
-exec-len-spec = tie.close (tie.spec returns)
