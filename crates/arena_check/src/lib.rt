@@ -1,5 +1,7 @@
 // Whether bytes are an image of the arena: the test behind cause 9, of every call that is lent an arena. It goes over each byte once, and over heads
 // and keys once more where several stand in a row; of many keys only those are compared that share a mark.
+#![tactic(auto)]
+
 ghost use Rattle.std.specs.Prelude.{◌≡◌, ℕ, ◌+◌, ◌*◌, ◌-◌, ◌%◌, ◌^◌, ◌≤◌, ◌<◌, true, false, length};
 ghost use Rattle.buffer.specs.Field.{read32};
 ghost use Rattle.buffer.specs.Part.{part};
