@@ -21,7 +21,6 @@ use Rattle.resp3_prefix.specs.Begun.{lacking, lacking_row, lacking_below, crlf_b
 use Rattle.resp3_prefix.specs.Begun.{one_begun, alone_of, kind_begun}
 use Rattle.resp3_prefix.specs.Begun.{verbatim_body, verbatim_digits, verbatim_of, verbatim_begun, digits_of, minus_of, integer_begun, boolean_begun}
 use Rattle.resp3_prefix.specs.Begun.{body_begun, head_begun, head_then, begun_then, iter, value_begun, row_begun, within, first_value}
-use Rattle.resp3_prefix.specs.Cases.{depth-17}
 
 -- ---- sizes
 

@@ -1,6 +1,8 @@
 // A RESP3 value in bytes that may end inside it: where it ends, or the least number of bytes that it still lacks, or that no value begins so.
 // specs/Meaning.antt says what that means, specs/Law.antt that this reader finds it. It is one pass over the bytes: a caller that got more of them
 // asks again from the value's start, and the passes over a value that comes in pieces are as many as the pieces.
+#![tactic(auto)]
+
 ghost use Rattle.std.specs.Prelude.{◌≡◌, ◌+◌, ◌≤◌, min, length, get_or};
 ghost use Rattle.config.specs.Limits.{max_bytes};
 ghost use Rattle.decimal.specs.Read.{digit_b};
