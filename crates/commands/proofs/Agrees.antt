@@ -1,4 +1,4 @@
--- What `check::same` ensures is the test `same`. Assumes nothing.
+-- What `same` of the source ensures is the test `same`. Assumes nothing.
 use mathlib.Core.Path.{◌≡◌, refl, sym}
 use mathlib.Core.Bool.{Bool, true, false, false≢true}
 use Rattle.buffer.specs.Cases.{by_test}

@@ -3,11 +3,26 @@
 // specs/Names.antt and specs/MultiKey.antt have the definitions. Names are compared byte for byte, so only capitals are names.
 #![tactic(auto)]
 
-ghost use Rattle.std.specs.Prelude.{◌≡◌, List, length};
+ghost use Rattle.std.specs.Prelude.{◌≡◌, List, length, true};
 ghost use Rattle.buffer.specs.Same.{Bytes};
 ghost use Rattle.commands.specs.Names.{member, is_cacheable, takes_sole_key};
 ghost use Rattle.commands.specs.MultiKey.{multi_key};
 ghost use Rattle.commands.specs.Rows.{row, of_length};
+
+// Whether a and b have the same bytes, stopping at the first difference.
+fn same(a: &[u8], b: &[u8]) -> bool
+    ensures { (result ≡ true → a.now ≡ b.now) × (a.now ≡ b.now → result ≡ true) }
+{
+    if a.len() != b.len() {
+        return false;
+    }
+    for (i, &x) in a.iter().enumerate() {
+        if x != b[i] {
+            return false;
+        }
+    }
+    true
+}
 
 // Whether name is one of the names of its length that stand in rows, a bar before each. Names are short and mostly differ in their
 // first bytes, so the comparison is the one that stops at the first difference.
@@ -19,7 +34,7 @@ fn listed(name: &[u8], rows: &[u8]) -> bool
     while n < rows.len() - at {
         let from = at + 1;
         let to = from + n;
-        if check::same(&rows[from..to], name) {
+        if same(&rows[from..to], name) {
             return true;
         }
         at = to;
@@ -81,10 +96,10 @@ pub enum MultiKey {
 pub fn is_multi_key(name: &[u8]) -> MultiKey
     ensures { result ≡ multi_key name.now }
 {
-    if check::same(name, b"MGET") {
+    if same(name, b"MGET") {
         return MultiKey::Mget;
     }
-    if check::same(name, b"JSON.MGET") {
+    if same(name, b"JSON.MGET") {
         return MultiKey::JsonMget;
     }
     MultiKey::None
