@@ -6,7 +6,6 @@ use Rattle.buffer.specs.Cases.{by_test}
 use Rattle.resp3_element.specs.declared.Integer.{Integer}
 use Rattle.resp3_element.specs.declared.Integer.TheVariants.{Is, No}
 use Rattle.resolving.specs.Store.{expiry_of}
-use Rattle.resolving.specs.Cases.{pttl-past-64}
 
 -- a sum past 64 bits is never the sooner end (rule S9): the client expiry has 64 bits and is smaller
 pub past-64 : (clock client n : ℕ) → client < 2 ^ 64 → 2 ^ 64 ≤ clock + n → expiry_of clock client (Is (pos n)) ≡ client

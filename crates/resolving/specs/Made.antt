@@ -17,7 +17,6 @@ use Rattle.resolving.specs.Store.{store_of}
 use Rattle.resolving.specs.Resolve.{Outcome, wrong, gives, take_reply, opt_in, take_single, Filled, placed, eaten, fill, fill_from, take_multiple}
 use Rattle.resolving.specs.Resolve.{take_command, Resolved, cause7, answered, behind, go_on, take_commands, from_replies, resolve}
 use Rattle.resolving.specs.Expiry.{not-later}
-use Rattle.resolving.specs.Cases.{left_over}
 
 -- every value of a row has the property
 abbrev pub Every : (Value → Type 0) → Values → Type 0

@@ -6,14 +6,12 @@ use Rattle.std.proofs.Math.Option.{Option, some}
 use Rattle.std.proofs.Math.Option as option
 use Prim.Native.Char.{code}
 use Rattle.config.specs.declared.CacheMode.{CacheMode}
-use Rattle.resp3.specs.Value.{Value, Values, none, count, counted, encs, encode}
+use Rattle.resp3.specs.Value.{Value, Values, count, counted, encs, encode}
 use Rattle.book.specs.Calls.{Storing}
 use Rattle.resolving.specs.Plan.{Command, Plan}
 use Rattle.resolving.specs.Convert.{replies_of}
 use Rattle.resolving.specs.Resolve.{Outcome, wrong, gives, take_command, Resolved, cause7, answered, behind, go_on, take_commands, from_replies, resolve}
 use Rattle.resolving.specs.Result.{result_bytes}
-use Rattle.resolving.specs.Cases.{result-empty}
-use Rattle.resolving.specs.PushCases.{marked-push}
 
 -- `*n` and the answers, one after the other
 pub result-written : (answers : Values) → result_bytes false answers ≡ code "*" ∷ counted (count answers) (encs answers [])

@@ -18,7 +18,6 @@ use Rattle.resolving.specs.Store.{expiry_of, store_of}
 use Rattle.resolving.specs.Resolve.{Outcome, wrong, gives, take_reply, opt_in, take_single, Filled, fill, fill_from, take_multiple, take_command}
 use Rattle.resolving.specs.Resolve.{Resolved, cause7, answered, behind, go_on, take_commands, from_replies, resolve}
 use Rattle.resolving.specs.Result.{result_of}
-use Rattle.resolving.specs.Cases.{left_over}
 use Rattle.resolving.specs.Vec.{joined, push_back, joined-none, joined-push, count-push, set-joined}
 use Rattle.resolving.specs.Rust.{expire_time, insert_unless_error, Out, err, ok, attempt, next_reply, resolve_single, response_of, parts_of, zip_loop}
 use Rattle.resolving.specs.Rust.{if_array, resolve_multiple, after_skip, arm, Returned, failed, returned, finish, command_loop, from_value}
