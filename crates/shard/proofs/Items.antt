@@ -66,7 +66,7 @@ found from k (it ∷ row) at d e =
       at-is = omega arith;
     })
     (λ q.
-    let was : Found _ k row at = found _ k row at d.1 (rw q at e) in
+    let was : Found _ k row at = found (from + item_bytes it) k row at d.1 (rw q at e) in
     let w = was.at-is in
     record {
       item = was.item;
@@ -108,4 +108,4 @@ no_item from k [] e = refl
 no_item from k (it ∷ row) e =
     by_test (same k it.key)
     (λ q. let a : At from ≡ Absent = rw q at e in let z : ◌≡◌ {A = ℕ} 0 1 = cc in absurd (omega arith))
-    (λ q. rw q (no_item _ k row (rw q at e)))
+    (λ q. rw q (no_item (from + item_bytes it) k row (rw q at e)))

@@ -2,6 +2,8 @@
 //
 // Every function is lent bytes that hold a row (specs/Holds.antt), as the entry points have checked; none tests that again. A contract speaks
 // of the row that the bytes hold, or of the item that stands at the place given.
+#![tactic(auto)]
+
 ghost use Rattle.std.specs.Prelude.{◌≡◌, [], ◌∷◌, ◌++◌, true, false, length};
 ghost use Rattle.buffer.specs.Field.{read32};
 ghost use Rattle.buffer.specs.Same.{same};
