@@ -11,7 +11,7 @@ ghost use Rattle.command_key.specs.Key.{command_key, name_bytes, key_bytes, KeyI
 
 use cursor::{Args, Range};
 
-#[derive(Drop)]
+#[derive(Clone, Copy)]
 pub enum CommandKey {
     // A range of the source.
     Part(Range),

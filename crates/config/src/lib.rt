@@ -54,21 +54,21 @@ pub const BAD_PLAN: u64 = 10;
 pub const NO_SPACE: u64 = 11;
 
 // Which commands are cached: every one that can be, or those alone that ask for it.
-#[derive(Drop)]
+#[derive(Clone, Copy)]
 pub enum CacheMode {
     All,
     OptIn,
 }
 
 // When a call is made: its clock (ms) and its epoch, as it was given them.
-#[derive(Drop)]
+#[derive(Clone, Copy)]
 pub struct Now {
     pub clock: u64,
     pub epoch: u64,
 }
 
 // What a call works with, once cause 1 is ruled out.
-#[derive(Drop)]
+#[derive(Clone, Copy)]
 pub struct Settings {
     pub mode: CacheMode,
     // the default client TTL, in milliseconds
