@@ -81,7 +81,7 @@ pub struct Settings {
 }
 
 // The outcome of cause 1's test.
-#[derive(Drop)]
+#[derive(Clone, Copy)]
 pub enum CheckedConfig {
     Fine(Settings),
     Refused,
