@@ -13,7 +13,7 @@ ghost use Rattle.resp3.specs.Ends.{null_head, head_at, value_end, is_value};
 use decimal::Num;
 
 // Where something ends: the place after its last byte. Bad where it does not stand there whole.
-#[derive(Drop)]
+#[derive(Clone, Copy)]
 pub enum End {
     At(usize),
     Bad,
@@ -27,7 +27,7 @@ enum Head {
 }
 
 // The kinds of RESP3, and one for a byte that begins none.
-#[derive(Drop)]
+#[derive(Clone, Copy)]
 pub enum Kind {
     BlobString,
     SimpleString,
@@ -48,7 +48,7 @@ pub enum Kind {
 }
 
 // How a kind is written.
-#[derive(Drop)]
+#[derive(Clone, Copy)]
 pub enum Shape {
     Blob,
     Line,

@@ -13,7 +13,7 @@ use decimal::Num;
 use resp3::{End, Kind};
 
 // Stands at an element of a list: where that begins and ends, and how many elements there are from it on.
-#[derive(Drop)]
+#[derive(Clone, Copy)]
 pub struct Cursor {
     pub at: usize,
     pub end: usize,
@@ -21,19 +21,19 @@ pub struct Cursor {
 }
 
 // A list's elements, from the first one on.
-#[derive(Drop)]
+#[derive(Clone, Copy)]
 pub enum Elements {
     Of(Cursor),
     No,
 }
 
-#[derive(Drop)]
+#[derive(Clone, Copy)]
 pub enum Integer {
     Is(i64),
     No,
 }
 
-#[derive(Drop)]
+#[derive(Clone, Copy)]
 struct Range {
     at: usize,
     end: usize,
