@@ -60,7 +60,7 @@ pub fn find_entry(s: &[u8], at: usize, source: &[u8], command: CommandKey) -> Po
 }
 
 // What an item has for a lookup.
-#[derive(Drop)]
+#[derive(Clone, Copy)]
 enum Reading {
     // It is under another epoch, or past its expiry.
     Stale,
@@ -93,7 +93,7 @@ fn read_item(s: &[u8], at: usize, source: &[u8], command: CommandKey, when: Now)
 }
 
 // What a lookup answers.
-#[derive(Drop)]
+#[derive(Clone, Copy)]
 pub enum Looked {
     // The value: the shard's bytes from `from` up to `to`.
     Hit { from: usize, to: usize },

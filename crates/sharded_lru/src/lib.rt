@@ -21,7 +21,7 @@ use config::{CheckedConfig, Now, Settings};
 use shard_lookup::Looked;
 
 // What causes 1 and 9 leave of a call.
-#[derive(Drop)]
+#[derive(Clone, Copy)]
 pub enum Admitted {
     // The arena is an image under these settings.
     Admits(Settings),

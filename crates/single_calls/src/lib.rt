@@ -22,7 +22,7 @@ use statistics::Statistics;
 pub const NO_CAUSE: u64 = 0;
 
 // What setup comes to.
-#[derive(Drop)]
+#[derive(Clone, Copy)]
 pub enum NewCache {
     // A fresh cache: the epoch that it takes, and the next epoch number.
     Fresh(u64, u64),
@@ -46,7 +46,7 @@ pub fn setup(arena: &mut [u8], size: u64, mode: u64, ttl: u64) -> NewCache
 }
 
 // What a store or an invalidation comes to.
-#[derive(Drop)]
+#[derive(Clone, Copy)]
 pub enum Answered {
     Done,
     // The number of the cause; everything is left as it was.
@@ -54,7 +54,7 @@ pub enum Answered {
 }
 
 // What a lookup comes to.
-#[derive(Drop)]
+#[derive(Clone, Copy)]
 pub enum Found {
     // The value: the arena's bytes from `from` up to `to`, as the lookup leaves them.
     Hit { from: usize, to: usize },
@@ -64,14 +64,14 @@ pub enum Found {
 }
 
 // What a lookup returns: with the counts, which it was given by value.
-#[derive(Drop)]
+#[derive(Clone, Copy)]
 pub struct LookedUp {
     pub found: Found,
     pub counts: Statistics,
 }
 
 // What an invalidation returns.
-#[derive(Drop)]
+#[derive(Clone, Copy)]
 pub struct Invalidated {
     pub answer: Answered,
     pub counts: Statistics,
