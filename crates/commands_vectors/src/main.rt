@@ -1,40 +1,49 @@
 // Writes those of the lines of its input that are names of cacheable commands, and behind a command of several keys the one that asks
 // for one of them. The input is every name that `command_properties` knows, whatever it says of it, and then near misses.
+#![tactic(auto)]
+
 use commands::MultiKey;
-use libc::{STDIN_FILENO, STDOUT_FILENO};
+use std::io::{self, BufWriter, Read, Write};
+
+// The most bytes that are read.
+const MAX_INPUT: u64 = 4096;
 
 // A line of the output, or none.
-fn show(word: &[u8]) {
+fn show<W: Write>(to: &mut W, word: &[u8]) -> io::Result<()> {
     if commands::is_cachable_cmd(word) {
-        io::write_all(STDOUT_FILENO, word);
+        to.write_all(word)?;
         match commands::is_multi_key(word) {
             MultiKey::Mget => {
-                io::write_all(STDOUT_FILENO, b" GET");
+                to.write_all(b" GET")?;
             }
             MultiKey::JsonMget => {
-                io::write_all(STDOUT_FILENO, b" JSON.GET");
+                to.write_all(b" JSON.GET")?;
             }
             MultiKey::None => {}
         }
-        io::write_all(STDOUT_FILENO, b"\n");
+        to.write_all(b"\n")?;
     }
+    Ok(())
 }
 
 // A line of the output for each line that has one.
-fn show_lines(s: &[u8]) {
+fn show_lines<W: Write>(to: &mut W, s: &[u8]) -> io::Result<()> {
     let mut at = 0;
     while at < s.len() {
         let end = vectors_lines::line_end(s, at);
-        show(&s[at..end]);
+        show(to, &s[at..end])?;
         if end == s.len() {
-            return;
+            break;
         }
         at = end + 1;
     }
+    Ok(())
 }
 
-fn main() {
-    let mut input = io::buffer();
-    let n = io::read_full(STDIN_FILENO, &mut input);
-    show_lines(&input[..n]);
+fn main(rt: HostRuntime) -> io::Result<()> {
+    let mut input = Vec::new(rt.alloc());
+    rt.reader().take(MAX_INPUT).read_to_end(&mut input)?;
+    let mut out = BufWriter::new(rt.alloc(), io::writer(&rt))?;
+    show_lines(&mut out, input.as_slice())?;
+    out.flush()
 }

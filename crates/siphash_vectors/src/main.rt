@@ -1,58 +1,57 @@
 // Writes length, hash and shard of 32 of each key that vectors.rs hashes with Rust's `DefaultHasher`: lengths 0 to 72, and some long
 // ones. The file stdout, which it has to match, is what vectors.rs wrote.
+#![tactic(auto)]
+
 ghost use Rattle.std.specs.Prelude.{◌≤◌, length};
+
+use std::io::{self, BufWriter, Write};
 
 // Byte i of a key is (31 i + 7) modulo 256.
 fn fill(s: &mut [u8]) {
-    let n = s.len();
     let mut b: u8 = 7;
-    let mut i = 0;
-    while i < n {
-        s[i] = b;
-        b = std::num::wrapping_add_u8(b, 31);
-        i += 1;
+    for x in s.iter_mut() {
+        *x = b;
+        b = b.wrapping_add(31);
     }
 }
 
 // The line of the first n bytes.
-fn line(s: &[u8], n: usize)
+fn line<W: Write>(to: &mut W, s: &[u8], n: usize) -> io::Result<()>
     requires { n ≤ length s.now }
 {
     let key = &s[..n];
-    io::print_decimal(1, n as u64);
-    io::write_all(1, b" ");
-    io::print_hex(1, siphash::sip_hash_13(key), 16);
-    io::write_all(1, b" ");
-    io::print_decimal(1, siphash::shard_of(key, 32) as u64);
-    io::write_all(1, b"\n");
+    let hash = siphash::sip_hash_13(key);
+    let shard = siphash::shard_of(key, 32);
+    writeln!(to, "{n} {hash:016x} {shard}")
 }
 
 // The lines of every length up to 72.
-fn short_lines(s: &[u8])
+fn short_lines<W: Write>(to: &mut W, s: &[u8]) -> io::Result<()>
     requires { 65536 ≤ length s.now }
 {
-    let mut n = 0;
-    while n < 73 {
-        line(s, n);
-        n += 1;
+    for n in 0..73 {
+        line(to, s, n)?;
     }
+    Ok(())
 }
 
 // The lines of some long keys.
-fn long_lines(s: &[u8])
+fn long_lines<W: Write>(to: &mut W, s: &[u8]) -> io::Result<()>
     requires { 65536 ≤ length s.now }
 {
-    line(s, 255);
-    line(s, 256);
-    line(s, 257);
-    line(s, 1000);
-    line(s, 4096);
-    line(s, 65535);
+    line(to, s, 255)?;
+    line(to, s, 256)?;
+    line(to, s, 257)?;
+    line(to, s, 1000)?;
+    line(to, s, 4096)?;
+    line(to, s, 65535)
 }
 
-fn main() {
-    let mut s = io::large_buffer();
+fn main(rt: HostRuntime) -> io::Result<()> {
+    let mut s = [0; 65536];
     fill(&mut s);
-    short_lines(&s);
-    long_lines(&s);
+    let mut out = BufWriter::new(rt.alloc(), io::writer(&rt))?;
+    short_lines(&mut out, &s)?;
+    long_lines(&mut out, &s)?;
+    out.flush()
 }
