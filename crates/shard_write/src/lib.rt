@@ -3,6 +3,8 @@
 //
 // The functions are lent bytes with the room that their contracts ask for; none tests that again. A contract speaks of the bytes alone, or of the row that
 // they hold.
+#![tactic(auto)]
+
 ghost use Rattle.std.specs.Prelude.{◌≡◌, ℕ, ◌+◌, ◌≤◌, List, ◌∷◌, ◌++◌, length};
 ghost use Rattle.buffer.specs.Same.{Bytes};
 ghost use Rattle.buffer.specs.Part.{put};
