@@ -1,6 +1,8 @@
 // The plan's head and nodes, written at a place of the plan buffer (docs/LAYOUT.md, "The plan"). Every writer writes exactly the bytes that planning's
 // specs/Plan.antt defines, leaves the rest of the buffer as it was, and answers the place behind them. A node's kind is a parameter where kinds are
 // written alike.
+#![tactic(auto)]
+
 ghost use Rattle.std.specs.Prelude.{◌≡◌, cond, [], ◌+◌, ◌≤◌, length};
 ghost use Rattle.buffer.specs.Part.{put};
 ghost use Rattle.config.specs.Limits.{max_arena, max_bytes};
