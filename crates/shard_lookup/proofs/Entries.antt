@@ -162,7 +162,7 @@ command-at from c (en ∷ ens) at e =
     let b : from ≡ at = cc in
     record { front = []; entry = en; back = ens; splits = refl; serves = rw q; place = omega arith; value-place = rw q (omega arith); set = λ v. rw q })
     (λ q.
-    let was : CommandAt _ c ens at = command-at _ c ens at (rw q at e) in
+    let was : CommandAt _ c ens at = command-at (from + entry_size en) c ens at (rw q at e) in
     let w = was.place in
     record {
       front = en ∷ was.front;
@@ -207,4 +207,4 @@ no_value from c [] e = refl
 no_value from c (en ∷ ens) e =
     by_test (same c en.command)
     (λ q. let a : At from ≡ Absent = rw q at e in let z : ◌≡◌ {A = ℕ} 0 1 = cc in absurd (omega arith))
-    (λ q. rw q (no_value _ c ens (rw q at e)))
+    (λ q. rw q (no_value (from + entry_size en) c ens (rw q at e)))

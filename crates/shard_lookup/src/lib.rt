@@ -2,6 +2,8 @@
 //
 // Every function is lent bytes that hold a row (shard's specs/Holds.antt) and a command key that lies in its source, as the entry points have checked; none
 // tests that again. A contract speaks of the row that the bytes hold, or of the item or entry that stands at the place given.
+#![tactic(auto)]
+
 ghost use Rattle.std.specs.Prelude.{◌≡◌, length};
 ghost use Rattle.buffer.specs.Same.{same};
 ghost use Rattle.statistics.specs.OfBook.{adding};
