@@ -2,6 +2,8 @@
 //
 // The functions go upwards: the oldest item; each of the book's cases with its test of the space; the whole store. They are lent bytes that hold a
 // row (shard's specs/Holds.antt), as the entry points have checked, and arguments that cause 3 leaves; none tests that again.
+#![tactic(auto)]
+
 ghost use Rattle.std.specs.Prelude.{◌≡◌, ◌≤◌, List, ◌∷◌, ◌++◌, length};
 ghost use Rattle.std.proofs.Math.Option.{none};
 ghost use Rattle.config.specs.Limits.{max_command_key, max_bytes};
