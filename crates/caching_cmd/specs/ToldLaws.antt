@@ -21,7 +21,8 @@ use Rattle.resolving_walk.specs.Commands.{plan_read}
 use Rattle.resolving_walk.specs.Laws.{plan-within}
 use Rattle.resolving.specs.Resolve.{Resolved, cause7, answered, resolve}
 use Rattle.resolving.specs.Result.{result_bytes}
-use Rattle.resolving.specs.Kept.{Sent, AllStorable, Kept, resolved-kept}
+use Rattle.resolving.specs.Kept.{Sent, AllStorable, Kept}
+use Rattle.resolving.proofs.KeptLaws.{resolved-kept}
 use Rattle.caching_cmd.specs.Call.{fits, told_to}
 use Rattle.caching_cmd.specs.Told.{told_by}
 

@@ -7,10 +7,7 @@ pub mod Pushes
 pub mod Cases
 pub mod PushCases
 pub mod NullCases
-pub mod Expiry
-pub mod ResultLaws
 pub mod Made
 pub mod Kept
 pub mod Vec
 pub mod Rust
-pub mod Same

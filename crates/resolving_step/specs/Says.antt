@@ -10,7 +10,7 @@ use Rattle.resp3_element.specs.Meaning.{is_error, integer_of}
 use Rattle.book.specs.Calls.{Missing}
 use Rattle.planning.specs.Plan.{null_start, null_end}
 use Rattle.resolving.specs.Store.{expiry_of}
-use Rattle.resolving.specs.Expiry.{not-later}
+use Rattle.resolving.proofs.Expiry.{not-later}
 use Rattle.resolving_walk.specs.Walk.{shown, header, nothing, fetched, bytes_of, stores_of}
 use Rattle.resolving_step.specs.declared.Missed.{Missed}
 use Rattle.resolving_step.specs.declared.Next.TheVariants.{Plan, Reply, Head, Keep, Pass}

@@ -22,7 +22,7 @@ use Rattle.resolving.specs.Store.{store_of}
 use Rattle.resolving.specs.Resolve.{Outcome, wrong, gives, take_reply, opt_in, take_single, Filled, placed, fill, fill_from, take_multiple, take_command}
 use Rattle.resolving.specs.Resolve.{Resolved, cause7, answered, behind, go_on, take_commands, from_replies, resolve}
 use Rattle.resolving.specs.Result.{result_bytes}
-use Rattle.resolving.specs.ResultLaws.{as_many}
+use Rattle.resolving.proofs.ResultLaws.{as_many}
 use Rattle.planning.specs.Plan as nodes
 use Rattle.planning.specs.Rules.{GoodPlan}
 use Rattle.resolving_walk.specs.Commands.{commands_of, plan_read}
