@@ -40,7 +40,7 @@ use Rattle.plan.specs.Law.{read-start, read_back, plan-law}
 use Rattle.resolving_walk.specs.Commands.{plan_read}
 use Rattle.resolving.specs.Convert.{then_only_list, replies_of}
 use Rattle.resolving.specs.Resolve.{Resolved, cause7, answered, resolve}
-use Rattle.resolving_walk.specs.Same.{answers-many}
+use Rattle.resolving_walk.proofs.WalkLaws.{answers-many}
 use Rattle.resolving_passes.specs.Passes.{Starts}
 use Rattle.resolving_step.specs.Arms.{element-means, empty_stands}
 use Rattle.caching_cmd.specs.declared.ResolveAnswer.{ResolveAnswer}

@@ -15,7 +15,8 @@ use Rattle.resolving_walk.specs.Commands.{plan_read}
 use Rattle.resolving.specs.Convert.{replies_of}
 use Rattle.resolving.specs.Resolve.{Resolved, cause7, resolve}
 use Rattle.resolving_walk.specs.Walk.{walk}
-use Rattle.resolving_walk.specs.Same.{walked_of, plan-walk, no-list, result_head}
+use Rattle.resolving_walk.specs.Same.{walked_of, result_head}
+use Rattle.resolving_walk.proofs.WalkLaws.{plan-walk, no-list}
 use Rattle.resolving_step.specs.declared.Walk.{Walk}
 use Rattle.room.specs.Room.{spent, whole}
 use Rattle.room.specs.declared.Room.{Room}

@@ -16,7 +16,8 @@ use Rattle.book.specs.Calls.{Storing, call-defs}
 use Rattle.resolving.specs.Resolve.{Resolved, cause7, answered}
 use Rattle.resolving.specs.Result.{result_bytes}
 use Rattle.resolving_walk.specs.Walk.{Walked, stopped, through}
-use Rattle.resolving_walk.specs.Same.{walked_of, result_head, result-pieces}
+use Rattle.resolving_walk.specs.Same.{walked_of, result_head}
+use Rattle.resolving_walk.proofs.WalkLaws.{result-pieces}
 use Rattle.room.specs.Room.{spent, whole}
 use Rattle.resolving_passes.specs.declared.Dry.{Dry}
 use Rattle.resolving_passes.specs.declared.Dry.TheVariants.{Fits, Short, Wrong}

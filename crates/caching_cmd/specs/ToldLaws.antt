@@ -18,7 +18,7 @@ use Rattle.planning.specs.Plan as nodes
 use Rattle.plan.specs.Decode.{decode_plan}
 use Rattle.plan.specs.Law as plan_laws
 use Rattle.resolving_walk.specs.Commands.{plan_read}
-use Rattle.resolving_walk.specs.Laws.{plan-within}
+use Rattle.resolving_walk.proofs.NodesLaws.{plan-within}
 use Rattle.resolving.specs.Resolve.{Resolved, cause7, answered, resolve}
 use Rattle.resolving.specs.Result.{result_bytes}
 use Rattle.resolving.specs.Kept.{Sent, AllStorable, Kept}

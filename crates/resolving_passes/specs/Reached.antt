@@ -16,7 +16,7 @@ use Rattle.plan.specs.Head.{HeadIn}
 use Rattle.plan.specs.Node.{kind_of, first_of, second_of, number_of, node-is}
 use Rattle.resolving.specs.Kept.{AllStorable}
 use Rattle.resolving_walk.specs.Walk.{Move, stop, move, node_move, bytes_of, stores_of, Walked, stopped, through, before, move_then, walk}
-use Rattle.resolving_walk.specs.Same.{before-nothing, before-before}
+use Rattle.resolving_walk.proofs.WalkLaws.{before-nothing, before-before}
 use Rattle.resolving_step.specs.declared.Walk.{Walk}
 use Rattle.resolving_step.specs.declared.Step.{Step}
 use Rattle.resolving_step.specs.declared.Next.{Next}

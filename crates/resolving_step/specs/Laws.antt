@@ -14,7 +14,7 @@ use Rattle.plan.specs.declared.NodeHead.{NodeHead}
 use Rattle.plan.specs.Head.{head_at, HeadIn}
 use Rattle.plan.specs.Node.{kind_of, first_of, second_of, node-defs}
 use Rattle.plan.specs.There.{head_of, node_law}
-use Rattle.resolving_walk.specs.Laws.{asked}
+use Rattle.resolving_walk.proofs.NodesLaws.{asked}
 use Rattle.resolving_walk.specs.Walk.{Move, stop, move, opted, single_move, several_move, node_move}
 use Rattle.resolving_step.specs.declared.Walk.{Walk}
 use Rattle.resolving_step.specs.declared.Missed.{Missed}

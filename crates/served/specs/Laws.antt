@@ -21,7 +21,8 @@ use Rattle.resolving.specs.Convert.{replies_of}
 use Rattle.resolving.specs.Resolve.{Resolved, cause7, answered, behind, take_commands, resolve}
 use Rattle.resolving.specs.Result.{result_bytes}
 use Rattle.resolving_walk.specs.Walk.{Walked, walk}
-use Rattle.resolving_walk.specs.Same.{walked_of, plan-walk, result_head, result-pieces}
+use Rattle.resolving_walk.specs.Same.{walked_of, result_head}
+use Rattle.resolving_walk.proofs.WalkLaws.{plan-walk, result-pieces}
 use Rattle.resolving_step.specs.declared.Walk.{Walk}
 use Rattle.resolving_step.specs.Arms.{empty_stands}
 use Rattle.room.specs.Room.{spent, whole}
