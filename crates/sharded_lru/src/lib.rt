@@ -2,6 +2,8 @@
 //
 // Every function is lent an arena that is the image of some rows (specs/Lent.antt), as `admit` has found; none tests that again. A contract speaks
 // of whatever rows the arena is the image of: what is left is the image of the book's rows after the event, and the answer is the book's.
+#![tactic(auto)]
+
 ghost use Rattle.std.specs.Prelude.{◌≡◌, cond, true, ℕ, ◌+◌, ◌*◌, ◌≤◌};
 ghost use Rattle.std.proofs.Math.Option.{none};
 ghost use Rattle.config.specs.Limits.{max_arena};
