@@ -1,135 +1,129 @@
 // Vectors of RESP3, damaged ones among them: writes each line of the input and behind it what the bytes that it spells are found to be. In a line \r is CR,
 // \n is LF, and a backslash and another byte are that byte; a line that begins with `/` is a heading. Where the vectors come from is said in
 // judges/README.md.
+#![tactic(auto)]
+
 ghost use Rattle.std.specs.Prelude.{◌+◌, ◌≤◌, ◌<◌, length};
 ghost use Rattle.resp3.specs.Value.{IsValue};
 ghost use Rattle.resp3_vectors.specs.Standing.{Standing};
 
-use libc::{STDIN_FILENO, STDOUT_FILENO};
 use resp3::Kind;
 use resp3_element::{Cursor, Elements, Integer};
+use std::io::{self, BufWriter, Read, Write};
 
-fn put(s: &[u8]) {
-    io::write_all(STDOUT_FILENO, s);
+// The most bytes that are read.
+const MAX_INPUT: u64 = 65_536;
+
+// The most bytes that a line is to spell; what stands behind them is not looked at.
+const MAX_SPELLED: usize = 4096;
+
+fn put<W: Write>(to: &mut W, s: &[u8]) -> io::Result<()> {
+    to.write_all(s)
 }
 
-fn put_number(n: u64) {
-    io::print_decimal(STDOUT_FILENO, n);
+fn put_number<W: Write>(to: &mut W, n: u64) -> io::Result<()> {
+    write!(to, "{n}")
 }
 
 // A kind, by RESP3's name.
-fn put_kind(k: Kind) {
+fn put_kind<W: Write>(to: &mut W, k: Kind) -> io::Result<()> {
     match k {
-        Kind::BlobString => put(b"blob string"),
-        Kind::SimpleString => put(b"simple string"),
-        Kind::SimpleError => put(b"simple error"),
-        Kind::Number => put(b"number"),
-        Kind::Null => put(b"null"),
-        Kind::Double => put(b"double"),
-        Kind::Boolean => put(b"boolean"),
-        Kind::BlobError => put(b"blob error"),
-        Kind::VerbatimString => put(b"verbatim string"),
-        Kind::BigNumber => put(b"big number"),
-        Kind::Array => put(b"array"),
-        Kind::Map => put(b"map"),
-        Kind::Set => put(b"set"),
-        Kind::Attribute => put(b"attribute"),
-        Kind::Push => put(b"push"),
-        Kind::Unknown => put(b"unknown"),
+        Kind::BlobString => put(to, b"blob string"),
+        Kind::SimpleString => put(to, b"simple string"),
+        Kind::SimpleError => put(to, b"simple error"),
+        Kind::Number => put(to, b"number"),
+        Kind::Null => put(to, b"null"),
+        Kind::Double => put(to, b"double"),
+        Kind::Boolean => put(to, b"boolean"),
+        Kind::BlobError => put(to, b"blob error"),
+        Kind::VerbatimString => put(to, b"verbatim string"),
+        Kind::BigNumber => put(to, b"big number"),
+        Kind::Array => put(to, b"array"),
+        Kind::Map => put(to, b"map"),
+        Kind::Set => put(to, b"set"),
+        Kind::Attribute => put(to, b"attribute"),
+        Kind::Push => put(to, b"push"),
+        Kind::Unknown => put(to, b"unknown"),
     }
 }
 
-// The integers of these vectors.
-fn put_integer(z: i64) {
-    if z == 0 {
-        put(b"0");
-    } else if z == 1234 {
-        put(b"1234");
-    } else if z == 12345 {
-        put(b"12345");
-    } else if z == -1 {
-        put(b"-1");
-    } else if z == -2 {
-        put(b"-2");
-    } else if z == 9223372036854775807 {
-        put(b"9223372036854775807");
-    } else if z == -9223372036854775808 {
-        put(b"-9223372036854775808");
-    } else {
-        put(b"another");
-    }
+fn put_integer<W: Write>(to: &mut W, z: i64) -> io::Result<()> {
+    write!(to, "{z}")
 }
 
 // An element: its kind, and how many bytes it takes.
-fn put_element(v: &[u8]) {
-    put(b", ");
-    put_kind(resp3_element::kind(v));
-    put(b" in ");
-    put_number(v.len() as u64);
-    put(b" bytes");
+fn put_element<W: Write>(to: &mut W, v: &[u8]) -> io::Result<()> {
+    put(to, b", ")?;
+    put_kind(to, resp3_element::kind(v))?;
+    put(to, b" in ")?;
+    put_number(to, v.len() as u64)?;
+    put(to, b" bytes")
 }
 
 // The elements from a cursor on.
-fn put_elements(s: &[u8], first: Cursor)
+fn put_elements<W: Write>(to: &mut W, s: &[u8], first: Cursor) -> io::Result<()>
     requires { Standing s.now first }
 {
     let mut c = first;
     while c.left > 0 {
-        put_element(resp3_element::element(s, c));
+        put_element(to, resp3_element::element(s, c))?;
         c = resp3_element::next(s, c);
     }
+    Ok(())
 }
 
 // How many elements there are, and each of them.
-fn put_list(s: &[u8], first: Cursor)
+fn put_list<W: Write>(to: &mut W, s: &[u8], first: Cursor) -> io::Result<()>
     requires { Standing s.now first }
 {
-    put(b" of ");
-    put_number(first.left);
-    put_elements(s, first);
+    put(to, b" of ")?;
+    put_number(to, first.left)?;
+    put_elements(to, s, first)
 }
 
 // What a value is.
-fn describe(s: &[u8])
+fn describe<W: Write>(to: &mut W, s: &[u8]) -> io::Result<()>
     requires { IsValue s.now }
 {
     let k = resp3_element::kind(s);
-    put_kind(k);
+    put_kind(to, k)?;
     if resp3_element::is_error(s) {
-        put(b", a server error");
+        put(to, b", a server error")?;
     }
     if let Integer::Is(z) = resp3_element::number(s) {
-        put(b" ");
-        put_integer(z);
+        put(to, b" ")?;
+        put_integer(to, z)?;
     }
     if let Kind::BlobString = k {
-        put(b" [");
-        put(resp3_element::blob(s));
-        put(b"]");
+        put(to, b" [")?;
+        put(to, resp3_element::blob(s))?;
+        put(to, b"]")?;
     }
     if let Elements::Of(c) = resp3_element::array(s) {
-        put_list(s, c);
+        put_list(to, s, c)?;
     }
     if let Elements::Of(c) = resp3_element::push(s) {
-        put_list(s, c);
+        put_list(to, s, c)?;
     }
+    Ok(())
 }
 
 // What the bytes are found to be.
-fn show(s: &[u8]) {
+fn show<W: Write>(to: &mut W, s: &[u8]) -> io::Result<()> {
     if resp3::is_value(s) {
-        describe(s);
+        describe(to, s)
     } else {
-        put(b"refused");
+        put(to, b"refused")
     }
 }
 
 // What the first n bytes of a buffer are found to be.
-fn show_front(out: &[u8], n: usize) {
+fn show_front<W: Write>(to: &mut W, out: &[u8], n: usize) -> io::Result<()> {
     if n <= out.len() {
         let start = 0;
-        show(&out[start..n]);
+        show(to, &out[start..n])?;
     }
+    Ok(())
 }
 
 // The byte that b stands for: itself, or behind a backslash CR for r and LF for n.
@@ -173,17 +167,16 @@ fn unescape(line: &[u8], out: &mut [u8]) -> usize {
 }
 
 // A line of the input, and behind it what its bytes are found to be.
-fn show_line(line: &[u8]) {
-    put(line);
+fn show_line<W: Write>(to: &mut W, line: &[u8]) -> io::Result<()> {
+    put(to, line)?;
     if is_heading(line) {
-        put(b"\n");
-        return;
+        return put(to, b"\n");
     }
-    let mut out = io::buffer();
+    let mut out = [0; MAX_SPELLED];
     let n = unescape(line, &mut out);
-    put(b" => ");
-    show_front(&out, n);
-    put(b"\n");
+    put(to, b" => ")?;
+    show_front(to, &out, n)?;
+    put(to, b"\n")
 }
 
 // Whether a line is a heading: it begins with a byte that begins no value.
@@ -194,20 +187,23 @@ fn is_heading(line: &[u8]) -> bool {
     line[0] == b'/'
 }
 
-fn show_lines(s: &[u8]) {
+fn show_lines<W: Write>(to: &mut W, s: &[u8]) -> io::Result<()> {
     let mut at = 0;
     while at < s.len() {
         let end = vectors_lines::line_end(s, at);
-        show_line(&s[at..end]);
+        show_line(to, &s[at..end])?;
         if end == s.len() {
-            return;
+            break;
         }
         at = end + 1;
     }
+    Ok(())
 }
 
-fn main() {
-    let mut input = io::large_buffer();
-    let n = io::read_full(STDIN_FILENO, &mut input);
-    show_lines(&input[..n]);
+fn main(rt: HostRuntime) -> io::Result<()> {
+    let mut input = Vec::new(rt.alloc());
+    rt.reader().take(MAX_INPUT).read_to_end(&mut input)?;
+    let mut out = BufWriter::new(rt.alloc(), io::writer(&rt))?;
+    show_lines(&mut out, input.as_slice())?;
+    out.flush()
 }
