@@ -1,10 +1,12 @@
 // The plan that is lent to resolving: its nodes read one by one. docs/LAYOUT.md, "The plan", has the layout and its rules;
 // crates/planning/specs/Plan.antt and Rules.antt are both as definitions, and specs/Decode.antt decodes bytes by them.
+#![tactic(auto)]
+
 ghost use Rattle.std.specs.Prelude.{◌≡◌};
 ghost use Rattle.plan.specs.Head.{head_at, HeadIn};
 
 // A node's head: its kind; its two parts, from `first` up to `second` and from there up to `end`, where the next node stands; its number.
-#[derive(Drop)]
+#[derive(Clone, Copy)]
 pub struct NodeHead {
     pub kind: u32,
     pub first: usize,

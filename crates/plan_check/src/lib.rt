@@ -1,5 +1,7 @@
 // Cause 10's test: whether bytes are a plan, by the rules of docs/LAYOUT.md. One walk over the nodes, whatever the bytes; each node is tested by itself
 // and by what has to follow, and a served value is read once.
+#![tactic(auto)]
+
 ghost use Rattle.std.specs.Prelude.{◌≡◌, ◌≤◌, length};
 ghost use Rattle.resp3.specs.Ends.{is_value};
 ghost use Rattle.planning.specs.Plan.{plan_head_size};
@@ -11,7 +13,7 @@ use plan::NodeHead;
 
 // Where the walk over the nodes stands, and what has to follow there: so many places of a command whose places are all served, or of several keys
 // (and then the end of several), and after them so many commands.
-#[derive(Drop)]
+#[derive(Clone, Copy)]
 struct Walk {
     at: usize,
     commands: u32,
@@ -20,7 +22,7 @@ struct Walk {
 }
 
 // A step of the walk.
-#[derive(Drop)]
+#[derive(Clone, Copy)]
 enum Walked {
     To(Walk),
     Refused,

@@ -1,0 +1,11 @@
+-- `plan::node_at` meets its contract. Assumes nothing.
+use Rattle.plan.specs.Paths.{head-is}
+use Rattle.plan.proofs.node_at.Goals as goal
+
+pub returns : goal.returns
+returns c =
+    head-is _ _ _ _ _ _
+    c.read_u32-kind.ensures
+    c.read_u32.ensures
+    c.read_u32-2.ensures
+    c.read_u64-number.ensures
