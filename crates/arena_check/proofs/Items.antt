@@ -15,7 +15,7 @@ use Rattle.config.specs.Limits.{max_key}
 use Rattle.resp3.specs.Ends.{is_value}
 use Rattle.siphash.specs.Sip.{sip_hash13}
 use Rattle.arena.specs.Decode.{every}
-use Rattle.arena.specs.Tests.{every-yes}
+use Rattle.arena.proofs.Tests.{every-yes}
 use Rattle.arena_check.specs.Home.{home_in}
 use Rattle.arena_check.specs.Check.{key_in, key_at, entries_at, item_next, item_within, entries_end, item_ok}
 

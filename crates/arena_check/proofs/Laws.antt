@@ -17,7 +17,7 @@ use Rattle.buffer.specs.Zero.{all_zero}
 use Rattle.config.specs.Limits.{max_command_key}
 use Rattle.resp3.specs.Ends.{is_value}
 use Rattle.arena.specs.Decode.{every}
-use Rattle.arena.specs.Tests.{every-yes}
+use Rattle.arena.proofs.Tests.{every-yes}
 use Rattle.arena_check.specs.Walk.{nth, before}
 use Rattle.arena_check.specs.Check.{key_in, next_in, entry_next, value_at, entry_ok}
 

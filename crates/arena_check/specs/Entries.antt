@@ -18,9 +18,9 @@ use Rattle.book.specs.Book.{Entry, value_for, entry_bytes}
 use Rattle.book.specs.Sound.{DistinctCommands}
 use Rattle.format.specs.Lists.{All}
 use Rattle.arena.specs.Layout.{zeros, head, enc_entry, enc_entries}
-use Rattle.arena.specs.Length.{length-entry, length-entries}
-use Rattle.arena.specs.Read.{command-length, value-length, entry-command, entry_value}
-use Rattle.arena.specs.Tests.{every-yes, yes-every}
+use Rattle.arena.proofs.Length.{length-entry, length-entries}
+use Rattle.arena.proofs.Read.{command-length, value-length, entry-command, entry_value}
+use Rattle.arena.proofs.Tests.{every-yes, yes-every}
 use Rattle.arena_check.specs.There.{head-there, head-zeros, read_behind, read_first, part-behind}
 use Rattle.arena_check.specs.Walk.{Differ, Stands, walk-found, run-good, run-bytes, bytes_run, found-walk}
 use Rattle.arena_check.specs.Check.{command_at, value_at, entry_next, entry_ok, entries_end}

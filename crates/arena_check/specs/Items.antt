@@ -22,11 +22,13 @@ use Rattle.book.specs.Sound.{Distinct, SoundItem}
 use Rattle.book.specs.Storable.{StorableEntries}
 use Rattle.format.specs.Lists.{All}
 use Rattle.arena.specs.Decode.{may_store}
-use Rattle.arena.specs.Image.{row_small}
+use Rattle.arena.proofs.Image.{row_small}
 use Rattle.arena.specs.Layout.{zeros, item_head, enc_entries, enc_item, enc_items}
-use Rattle.arena.specs.Length.{length-item_head, length-item, length-items}
-use Rattle.arena.specs.Read.{Small, key-length, entry-count, entries-length, item-key}
-use Rattle.arena.specs.Tests.{every-yes, yes-every, Fits}
+use Rattle.arena.proofs.Length.{length-item_head, length-item, length-items}
+use Rattle.arena.specs.Read.{Small}
+use Rattle.arena.proofs.Read.{key-length, entry-count, entries-length, item-key}
+use Rattle.arena.specs.Tests.{Fits}
+use Rattle.arena.proofs.Tests.{every-yes, yes-every}
 use Rattle.arena_check.specs.Check.{key_at, entries_at, item_next, entries_end, item_ok, items_end}
 use Rattle.arena_check.specs.Entries.{GoodEntry, EntriesThere, entries-found, entries-pass}
 use Rattle.arena_check.specs.There.{item-head-there, item-head-zeros, read_behind, read_first, part-behind}

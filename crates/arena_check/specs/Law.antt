@@ -15,14 +15,16 @@ use Rattle.buffer.specs.Part.{part}
 use Rattle.buffer.specs.PartLaws.{around-part, length_part}
 use Rattle.buffer.specs.Zero.{all_zero, zeros-pass, passed-zeros}
 use Rattle.book.specs.Book.{Setup, row_bytes}
-use Rattle.book.specs.SoundLaws.{sound-nil}
-use Rattle.arena.specs.Around.{shard-part}
+use Rattle.book.proofs.SoundLaws.{sound-nil}
+use Rattle.arena.proofs.Around.{shard-part}
 use Rattle.arena.specs.Decode.{read_shard, read_arena, is_image}
-use Rattle.arena.specs.Image.{Sized, Image, read-image}
+use Rattle.arena.specs.Image.{Sized, Image}
+use Rattle.arena.proofs.Image.{read-image}
 use Rattle.arena.specs.Layout.{zeros, enc_shard, enc_shards, encode}
-use Rattle.arena.specs.Length.{length-shards}
-use Rattle.arena.specs.Octets.{octets-front, octets-back}
-use Rattle.arena.specs.Tests.{every-yes, yes-every, FineRow, yes-rows}
+use Rattle.arena.proofs.Length.{length-shards}
+use Rattle.arena.proofs.Octets.{octets-front, octets-back}
+use Rattle.arena.specs.Tests.{FineRow}
+use Rattle.arena.proofs.Tests.{every-yes, yes-every, yes-rows}
 use Rattle.arena_check.specs.Check.{shard_ok, shards_ok, arena_ok}
 use Rattle.arena_check.specs.Shard.{ShardOf, shard-found, shard-passes}
 

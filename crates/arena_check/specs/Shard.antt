@@ -19,11 +19,12 @@ use Rattle.book.specs.Each.{Each}
 use Rattle.book.specs.Sound.{SoundItem}
 use Rattle.format.specs.Lists.{All}
 use Rattle.arena.specs.Decode.{read_shard}
-use Rattle.arena.specs.Image.{items-few, row_small}
+use Rattle.arena.proofs.Image.{items-few, row_small}
 use Rattle.arena.specs.Layout.{zeros, head, enc_items, enc_shard}
-use Rattle.arena.specs.Length.{length-head, length-items}
-use Rattle.arena.specs.Read.{head_first, head-second, shard-read}
-use Rattle.arena.specs.Tests.{every-yes, yes-every, Fits, FineRow}
+use Rattle.arena.proofs.Length.{length-head, length-items}
+use Rattle.arena.proofs.Read.{head_first, head-second, shard-read}
+use Rattle.arena.specs.Tests.{Fits, FineRow}
+use Rattle.arena.proofs.Tests.{every-yes, yes-every}
 use Rattle.arena_check.specs.Check.{items_end, shard_ok}
 use Rattle.arena_check.specs.Items.{GoodItem, ItemsThere, items-found, items-pass}
 use Rattle.arena_check.specs.There.{head-there, head-zeros}

@@ -23,7 +23,7 @@ use Rattle.planning.specs.Ask.{ask, any_late}
 use Rattle.planning.specs.Outcome.{wanted, outcomes}
 use Rattle.planning.specs.Sent.{Responses}
 use Rattle.planning.specs.Planning.{Planned, planned_from, short, plan_answer, plan_on}
-use Rattle.planning.specs.Run.{SentRun, sent-run}
+use Rattle.planning.proofs.Run.{SentRun, sent-run}
 use Rattle.sharded_lru.specs.Lent.{setup_now}
 use Rattle.call_entry.specs.Laws.{each-entry}
 use Rattle.cache_manager.specs.Pipeline.{refused_as, wrong_at, wrote, Left, refusal, pipelined, judged, admitted_to, plan_call}

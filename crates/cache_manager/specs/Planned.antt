@@ -19,7 +19,7 @@ use Rattle.planning.specs.Outcome.{CachingResult, wanted}
 use Rattle.planning.specs.Sent.{responses}
 use Rattle.planning.specs.Plan.{plan_of}
 use Rattle.planning.specs.Planning.{Planned, done, planned_by, planned_from, short, plan_on}
-use Rattle.planning.specs.Passes as passes
+use Rattle.planning.proofs.Passes as passes
 use Rattle.plan_write.specs.Pieces.{plan_head, plan-pieces}
 use Rattle.sharded_lru.specs.Lent.{setup_now}
 use Rattle.planning_outcome.specs.Sizes.{outcomes_for, all_nodes, all_sent, sent_count, nodes-are, sent-are, count-is, outcomes-on, outcomes-are}

@@ -15,7 +15,7 @@ use Rattle.resp3.specs.Ends.{is_value}
 use Rattle.book.specs.Book.{Setup, Row, after_all}
 use Rattle.book.specs.Calls.{refused, after_call, call-defs}
 use Rattle.arena.specs.Decode.{read_arena, is_image, decode}
-use Rattle.arena.specs.Image.{decode-exact}
+use Rattle.arena.proofs.Image.{decode-exact}
 use Rattle.arena.specs.Held.{Held, lend, book_of}
 use Rattle.sharded_lru.specs.Lent.{setup_now}
 use Rattle.sharded_lru.specs.Admit.{admitted_by, admitted}

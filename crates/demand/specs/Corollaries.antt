@@ -16,7 +16,7 @@ use Rattle.book.specs.Book.{Setup, Book, Counts, Event, fresh, after_all}
 use Rattle.book.specs.Calls as calls
 use Rattle.book.specs.Calls.{Storing, Call, ons, run, onto, shards_of, NoneCommon}
 use Rattle.book.specs.Residence.{ends, Residence, expiry_of, ServedBy}
-use Rattle.book.specs.Ways.{Way}
+use Rattle.book.proofs.Ways.{Way}
 use Rattle.book.specs.Counted.{Counted}
 use Rattle.book.specs.Trace.{SoundBook}
 use Rattle.arena.specs.Layout.{encode}

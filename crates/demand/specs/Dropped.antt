@@ -16,11 +16,13 @@ use Rattle.book.specs.Book as book
 use Rattle.book.specs.Book.{Setup, Book, Row, Item, Counts, Event, on, invalidate_all, without, value_for, current, serve, lookup_item, entries_of}
 use Rattle.book.specs.Book.{key_of, effect_on, effect, count, put, after, fresh}
 use Rattle.book.specs.Calls.{run}
-use Rattle.book.specs.Counts.{fit-adds}
+use Rattle.book.proofs.Counts.{fit-adds}
 use Rattle.book.specs.Counted.{Counted}
-use Rattle.book.specs.Trace.{SoundBook, sound}
+use Rattle.book.specs.Trace.{SoundBook}
+use Rattle.book.proofs.Trace.{sound}
 use Rattle.book.specs.Residence.{item_of, has_under, leaves, ends}
-use Rattle.book.specs.Items.{if_current, turned-defs, item-after}
+use Rattle.book.specs.Items.{if_current}
+use Rattle.book.proofs.Items.{turned-defs, item-after}
 use Rattle.call_entry.specs.Entered.{no_cause}
 use Rattle.arena.specs.Held.{Held, lend}
 use Rattle.demand.specs.Call.{RealCall, Given, setup_by}

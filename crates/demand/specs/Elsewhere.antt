@@ -5,9 +5,10 @@ use Rattle.std.proofs.Common.{sym, ap, ◌∙◌, arith, ne_eqb}
 use Rattle.book.specs.Book as book
 use Rattle.book.specs.Book.{Setup, Book, Keyed, key_of, on, put, effect, after, after_all}
 use Rattle.book.specs.Calls.{Call, single, ons, invalidations, after_call, homes, Shards, these, all_shards, shards_of, NotAmong, Apart, NoneCommon, call-defs}
-use Rattle.book.specs.Exchange.{Movable, a_single, a_push, a_push_all, a_refused, commute}
-use Rattle.book.specs.Trace.{row-elsewhere}
-use Rattle.arena.specs.PlaceLaws.{place-local}
+use Rattle.book.specs.Exchange.{Movable, a_single, a_push, a_push_all, a_refused}
+use Rattle.book.proofs.Exchange.{commute}
+use Rattle.book.proofs.Trace.{row-elsewhere}
+use Rattle.arena.proofs.PlaceLaws.{place-local}
 use Rattle.demand.specs.Replies.{place_in}
 
 -- events with keys leave the row of a shard that is none of theirs

@@ -9,7 +9,7 @@ use Rattle.resp3.specs.Ends.{is_value}
 use Rattle.book.specs.Book.{Counts, fresh}
 use Rattle.book.specs.Counted.{Counted}
 use Rattle.arena.specs.Tests.{WellFormed}
-use Rattle.arena.specs.Image.{decode-exact}
+use Rattle.arena.proofs.Image.{decode-exact}
 use Rattle.arena.specs.Held.{Held, lend}
 use Rattle.call_entry.specs.Entered.{no_cause}
 use Rattle.demand.specs.Call.{RealCall, Given, Stepped, setup_by}

@@ -11,7 +11,7 @@ use Rattle.book.specs.Book as book
 use Rattle.book.specs.Book.{Setup, Book, Answer, Keyed, on, answers, answer_to, effect, after, put, after_all}
 use Rattle.book.specs.Calls as calls
 use Rattle.book.specs.Calls.{Call, Wanted, Storing, ons, lookups, stores, invalidations, after_call, call-defs}
-use Rattle.book.specs.Counts.{store-counts}
+use Rattle.book.proofs.Counts.{store-counts}
 use Rattle.book.specs.Counted.{Counted}
 use Rattle.arena.specs.Layout.{encode}
 use Rattle.arena.specs.Held.{lend}

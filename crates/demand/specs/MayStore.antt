@@ -9,7 +9,7 @@ use Rattle.format.specs.Lists.{All}
 use Rattle.book.specs.Book as book
 use Rattle.book.specs.Calls as calls
 use Rattle.book.specs.Calls.{Call, Wanted, ons, lookups, invalidations, events_of}
-use Rattle.book.specs.Storable.{StorableEvents, StorableCalls}
+use Rattle.book.proofs.Storable.{StorableEvents, StorableCalls}
 use Rattle.arena.specs.Decode.{may_store}
 use Rattle.single_calls.specs.AsCallLaws.{call-storable}
 use Rattle.caching_cmd.specs.ToldLaws.{told-storable}

@@ -23,13 +23,15 @@ use Rattle.book.specs.Each.{Each}
 use Rattle.book.specs.Counted.{Counted}
 use Rattle.book.specs.Storable.{StorableEntries}
 use Rattle.arena.specs.Decode.{may_store, decode}
-use Rattle.arena.specs.Tests.{Fits, every-yes}
+use Rattle.arena.specs.Tests.{Fits}
+use Rattle.arena.proofs.Tests.{every-yes}
 use Rattle.arena.specs.Layout.{encode}
-use Rattle.arena.specs.Image.{Image, decode-exact}
-use Rattle.arena.specs.Octets.{EventOctets, arena-octets}
+use Rattle.arena.specs.Image.{Image}
+use Rattle.arena.proofs.Image.{decode-exact}
+use Rattle.arena.proofs.Octets.{EventOctets, arena-octets}
 use Rattle.arena.specs.Held.{Held, lend, book_of}
-use Rattle.arena.specs.Stores.{storing}
-use Rattle.arena.specs.Reach.{building, building-all, singles, not_yet, reached}
+use Rattle.arena.proofs.Stores.{storing}
+use Rattle.arena.proofs.Reach.{building, building-all, singles, not_yet, reached}
 use Rattle.call_entry.specs.Entered.{no_cause, on_rows, entered}
 use Rattle.single_calls.specs.Single as one
 use Rattle.single_calls.specs.AsCall.{call_of}

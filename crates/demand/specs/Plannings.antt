@@ -23,7 +23,8 @@ use Rattle.cursor.specs.Laws.{decoded-is}
 use Rattle.book.specs.Book.{Setup, Book, Answer}
 use Rattle.book.specs.Calls as calls
 use Rattle.book.specs.Calls.{Call, Wanted, reply_to}
-use Rattle.book.specs.Lookups.{dry, planning-reply}
+use Rattle.book.specs.Lookups.{dry}
+use Rattle.book.proofs.Lookups.{planning-reply}
 use Rattle.arena.specs.Tests.{WellFormed}
 use Rattle.planning.specs.Ask.{ask, any_late}
 use Rattle.planning.specs.Outcome.{CachingResult, wanted, outcomes}

@@ -21,7 +21,7 @@ use Rattle.book.specs.Book.{Setup, Row, Book, Answer, Keyed}
 use Rattle.book.specs.Calls as calls
 use Rattle.book.specs.Calls.{Call, reply_to, after_call}
 use Rattle.arena.specs.Place.{arena_place}
-use Rattle.arena.specs.Sequence.{outcome_of}
+use Rattle.arena.proofs.Sequence.{outcome_of}
 use Rattle.arena.specs.Held.{Held}
 use Rattle.planning.specs.Ask.{ask, any_late}
 use Rattle.planning.specs.Planning.{Planned, planned_from}

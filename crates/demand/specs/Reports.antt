@@ -22,8 +22,8 @@ use Rattle.book.specs.Book as book
 use Rattle.book.specs.Book.{Setup, Book, Counts, Answer, Keyed, fresh}
 use Rattle.book.specs.Calls as calls
 use Rattle.book.specs.Calls.{Wanted, Storing, Call, reply_to, after_calls}
-use Rattle.book.specs.Trace.{Proper}
-use Rattle.book.specs.Demand3Laws.{demand-three}
+use Rattle.book.proofs.Trace.{Proper}
+use Rattle.book.proofs.Demand3Laws.{demand-three}
 use Rattle.planning.specs.Ask.{any_late}
 use Rattle.planning.specs.Plan as nodes
 use Rattle.plan.specs.Decode.{decode_plan}

@@ -14,7 +14,8 @@ use Rattle.book.specs.Book.{Setup, Book, Row, Item, Answer, Event, on, invalidat
 use Rattle.book.specs.Calls.{Call, events_of, is_refused, reply_to}
 use Rattle.book.specs.Residence.{item_of}
 use Rattle.book.specs.Tally.{hits_in, misses_in, tally, tally_reply}
-use Rattle.book.specs.Lookups.{served as served_answer, answer_from, lookup-answer}
+use Rattle.book.specs.Lookups.{served as served_answer, answer_from}
+use Rattle.book.proofs.Lookups.{lookup-answer}
 use Rattle.demand.specs.Call.{Return}
 use Rattle.demand.specs.Words.{Got, got, missed, gots_of, lookups_in}
 use Rattle.demand.specs.CorollaryWords.{served, unserved}

@@ -20,7 +20,7 @@ use Rattle.book.specs.Book.{Setup, Book, Answer, Keyed, on, answers, answer_to}
 use Rattle.book.specs.Calls as calls
 use Rattle.book.specs.Calls.{Storing, Call, stores, invalidations, ons, events_of, reply_to, call-defs}
 use Rattle.arena.specs.Tests.{WellFormed}
-use Rattle.arena.specs.Sequence.{outcome_of}
+use Rattle.arena.proofs.Sequence.{outcome_of}
 use Rattle.planning.specs.Plan as nodes
 use Rattle.planning.specs.Planning.{call_of}
 use Rattle.plan.specs.Decode.{decode_plan}

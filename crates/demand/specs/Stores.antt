@@ -19,12 +19,13 @@ use Rattle.book.specs.Book.{answer_to, answers, after, after_all}
 use Rattle.book.specs.Calls.{Call, ons, after_call, reply_to, call-defs}
 use Rattle.book.specs.Counted.{Counted}
 use Rattle.book.specs.Trace.{SoundBook}
-use Rattle.book.specs.Rows.{value_set}
+use Rattle.book.proofs.Rows.{value_set}
 use Rattle.book.specs.Residence.{item_of, is_stored}
-use Rattle.book.specs.Items.{stored_item, turned-defs, item-after}
-use Rattle.book.specs.Lookups.{answer_from, Serving, serving, lookup-answer}
+use Rattle.book.proofs.Items.{stored_item, turned-defs, item-after}
+use Rattle.book.specs.Lookups.{answer_from}
+use Rattle.book.proofs.Lookups.{Serving, serving, lookup-answer}
 use Rattle.book.specs.Demand3.{shard_after}
-use Rattle.arena.specs.Sequence.{outcome_of}
+use Rattle.arena.proofs.Sequence.{outcome_of}
 use Rattle.arena.specs.Held.{Held}
 use Rattle.single_calls.specs.Single as one
 use Rattle.call_entry.specs.Entered.{no_cause}

@@ -28,9 +28,10 @@ use Rattle.book.specs.Book as book
 use Rattle.book.specs.Book.{Setup, Book, Counts, Answer, Keyed}
 use Rattle.book.specs.Calls.{Call, after_call, reply_to, after_calls, replies}
 use Rattle.book.specs.Counted.{Counted}
-use Rattle.book.specs.Tally.{hits_in, misses_in, tally_reply, tally_all, hits-tallied, misses-tallied}
+use Rattle.book.specs.Tally.{hits_in, misses_in, tally_reply, tally_all}
+use Rattle.book.proofs.Tally.{hits-tallied, misses-tallied}
 use Rattle.arena.specs.Tests.{WellFormed}
-use Rattle.arena.specs.Sequence.{outcome_of}
+use Rattle.arena.proofs.Sequence.{outcome_of}
 use Rattle.arena.specs.Held.{Held, lend}
 use Rattle.planning.specs.Ask.{any_late}
 use Rattle.single_calls.specs.Single as one

@@ -19,9 +19,10 @@ use Rattle.call_record.specs.Record.{Record, enc_record, ValidRecord, transactio
 use Rattle.call_record.specs.Check.{check_def, check-fine}
 use Rattle.cursor.specs.Laws.{decoded}
 use Rattle.book.specs.Book.{Setup, Row, Book, Answer}
-use Rattle.book.specs.Lookups.{dry, planned}
+use Rattle.book.specs.Lookups.{dry}
+use Rattle.book.proofs.Lookups.{planned}
 use Rattle.arena.specs.Decode.{decode}
-use Rattle.arena.specs.Image.{decode-exact}
+use Rattle.arena.proofs.Image.{decode-exact}
 use Rattle.arena.specs.Held.{Held, book_of}
 use Rattle.sharded_lru.specs.Lent.{setup_now}
 use Rattle.planning.specs.Ask.{ask, any_late}

@@ -9,7 +9,7 @@ use Rattle.buffer.specs.Same.{Bytes}
 use Rattle.config.specs.declared.Settings.{Settings}
 use Rattle.siphash.specs.Shard.{shard_of}
 use Rattle.book.specs.Book.{Row, lookup, on, key_of, find, lookup_item, effect_on, set_row}
-use Rattle.book.specs.Trace.{row_here, row-elsewhere}
+use Rattle.book.proofs.Trace.{row_here, row-elsewhere}
 use Rattle.arena.specs.SetupOf.{setup_of}
 use Rattle.shard_lookup.specs.Looked.{Told}
 use Rattle.shard_lookup.specs.declared.Looked.TheVariants.{Miss}

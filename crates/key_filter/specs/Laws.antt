@@ -14,8 +14,8 @@ use Rattle.config.specs.declared.Settings.{Settings}
 use Rattle.siphash.specs.Shard.{shard_of}
 use Rattle.book.specs.Book.{Setup, Row, Keyed, lookup, store, invalidate, key_of, on, find, set_row}
 use Rattle.book.specs.Each.{Brings}
-use Rattle.book.specs.EachLaws.{each-effect_on}
-use Rattle.book.specs.Trace.{row_here, row-elsewhere}
+use Rattle.book.proofs.EachLaws.{each-effect_on}
+use Rattle.book.proofs.Trace.{row_here, row-elsewhere}
 use Rattle.sharded_lru.specs.Lent.{setup_now, Lent, Arena, effect_in, rows_after}
 use Rattle.sharded_lru.specs.Laws.{lent_same}
 use Rattle.key_filter.specs.Filter.{bit_of, is_set, set_bit, may_hold, Grows, Marked, Covers, Filters}

@@ -21,10 +21,12 @@ use Rattle.book.specs.Book.{Setup, Entry, Row, Answer, hit, miss, stored, no_spa
 use Rattle.book.specs.Each.{Each}
 use Rattle.book.specs.Storable.{StorableEntries, StorableItem}
 use Rattle.arena.specs.Decode.{may_store, decode}
-use Rattle.arena.specs.Tests.{every-yes, yes-every, WellFormed}
+use Rattle.arena.specs.Tests.{WellFormed}
+use Rattle.arena.proofs.Tests.{every-yes, yes-every}
 use Rattle.arena.specs.Image as images
+use Rattle.arena.proofs.Image as image_laws
 use Rattle.arena.specs.Image.{Sized}
-use Rattle.arena.specs.Sizes.{sized}
+use Rattle.arena.proofs.Sizes.{sized}
 use Rattle.sharded_lru.specs.Lent.{setup_now}
 use Rattle.call_entry.specs.Entered.{no_cause}
 use Rattle.single_calls.specs.Single.{number_of, served_by}
@@ -107,8 +109,8 @@ module _ (size mode ttl : ℕ) (s : Bytes) (e : refused size mode (length s) ≡
 
   rows_are : (rows : ℕ → Row) → (decode is_value p s ≡ some rows) ↔ Image p s rows
   rows_are rows = (
-    λ d. image-means p s rows (images.decode-exact is_value p s rows d),
-    λ w. (images.decodes is_value p s is-sized rows).1 (means-image p s rows w),
+    λ d. image-means p s rows (image_laws.decode-exact is_value p s rows d),
+    λ w. (image_laws.decodes is_value p s is-sized rows).1 (means-image p s rows w),
   )
 
   no-image : (decode is_value p s ≡ none) ↔ ((rows : ℕ → Row) → Image p s rows → ⊥)

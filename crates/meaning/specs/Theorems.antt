@@ -26,7 +26,7 @@ use Rattle.book.specs.Book.{Setup, Row, Book, Counts, Keyed, lookup, store, inva
 use Rattle.book.specs.Calls.{single, after_call, reply_to, ons, call-defs}
 use Rattle.arena.specs.Decode.{decode}
 use Rattle.arena.specs.Place.{arena_place}
-use Rattle.arena.specs.Sequence.{outcome_of}
+use Rattle.arena.proofs.Sequence.{outcome_of}
 use Rattle.arena.specs.Held.{Held, lend, book_of}
 use Rattle.sharded_lru.specs.Lent.{setup_now}
 use Rattle.call_entry.specs.Entered.{holding, on_rows, entered}

@@ -14,8 +14,8 @@ use Rattle.planning.specs.Outcome as outcome
 use Rattle.planning.specs.Outcome.{CachingResult, missing, outcomes}
 use Rattle.planning.specs.Plan.{Node, end_of_several, value_nodes, place_nodes, served_nodes, missing_nodes, nodes_of, nodes, plan_of, enc_plan}
 use Rattle.planning.specs.Planning.{planned_by, planned_from}
-use Rattle.planning.specs.Gives.{missing_of, all_missing}
-use Rattle.planning.specs.Kept.{GoodAnswer, good-plan}
+use Rattle.planning.proofs.Gives.{missing_of, all_missing}
+use Rattle.planning.proofs.Kept.{GoodAnswer, good-plan}
 use Rattle.planning.specs.Rules.{GoodPlan}
 use Rattle.resolving.specs.Plan.{Plan}
 use Rattle.plan.specs.Decode.{decode_plan}

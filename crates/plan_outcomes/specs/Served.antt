@@ -17,15 +17,17 @@ use Rattle.call_record.specs.Record.{Record, enc_record, ValidRecord, transactio
 use Rattle.book.specs.Book.{Setup, Entry, Item, Row, Book, Answer, find, without, value_for, current, serve, lookup_item, key_of, effect_on, effect, answer_to}
 use Rattle.book.specs.Calls.{Wanted}
 use Rattle.book.specs.Each.{Each}
-use Rattle.book.specs.EachLaws.{each-find}
-use Rattle.book.specs.Lookups.{dry, planned}
+use Rattle.book.proofs.EachLaws.{each-find}
+use Rattle.book.specs.Lookups.{dry}
+use Rattle.book.proofs.Lookups.{planned}
 use Rattle.book.specs.Storable.{StorableEntries, StorableItem}
 use Rattle.arena.specs.Decode.{may_store}
-use Rattle.arena.specs.Tests.{every-yes, WellFormed}
+use Rattle.arena.specs.Tests.{WellFormed}
+use Rattle.arena.proofs.Tests.{every-yes}
 use Rattle.planning.specs.Ask.{ask, any_late}
 use Rattle.planning.specs.Outcome.{wanted, outcomes}
 use Rattle.planning.specs.Planning.{Planned, because, done, planned_from, short, plan_answer, plan_on}
-use Rattle.planning.specs.Kept.{GoodAnswer}
+use Rattle.planning.proofs.Kept.{GoodAnswer}
 use Rattle.plan_outcomes.specs.Law.{Read, planned-read}
 
 -- an entry's value is a value

@@ -4,13 +4,3 @@ pub mod Sent
 pub mod Plan
 pub mod Planning
 pub mod Rules
-pub mod Cases
-pub mod CasesSent
-pub mod CasesPlan
-pub mod CasesRules
-pub mod Run
-pub mod Passes
-pub mod Order
-pub mod Small
-pub mod Kept
-pub mod Gives

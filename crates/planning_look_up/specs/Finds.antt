@@ -11,7 +11,8 @@ use Rattle.statistics.specs.OfBook.{counts_of}
 use Rattle.statistics.specs.declared.Statistics.{Statistics}
 use Rattle.book.specs.Book.{Setup, Book, Row, Answer, lookup, on, after, after_all, answers}
 use Rattle.book.specs.Calls.{Wanted, lookups, ons}
-use Rattle.book.specs.Lookups.{dry, planned}
+use Rattle.book.specs.Lookups.{dry}
+use Rattle.book.proofs.Lookups.{planned}
 use Rattle.planning.specs.Outcome as plan
 use Rattle.sharded_lru.specs.Laws.{lent_same}
 use Rattle.sharded_lru.specs.Lent.{setup_now, Lent}

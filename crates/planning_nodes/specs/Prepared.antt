@@ -26,7 +26,7 @@ use Rattle.book.specs.Calls.{Wanted}
 use Rattle.planning.specs.Outcome as plan
 use Rattle.planning.specs.Outcome.{Place, missing, item, single_item, multiple_item, whole_key, part_keys}
 use Rattle.planning.specs.Sent.{keys_of}
-use Rattle.planning.specs.Small.{parts-count}
+use Rattle.planning.proofs.Small.{parts-count}
 use Rattle.planning.specs.Plan.{place_nodes, node_bytes, enc_node, hand_on_kind, served_kind, all_served_kind, missing_kind, several_kind, end_kind}
 use Rattle.plan_write.specs.Pieces.{length-node}
 use Rattle.plan_write.specs.Wrote.{wrote-is, wrote_as, wrote-both, wrote-long}

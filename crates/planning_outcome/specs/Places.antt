@@ -18,7 +18,7 @@ use Rattle.book.specs.Calls.{Wanted}
 use Rattle.book.specs.Lookups.{dry}
 use Rattle.planning.specs.Ask.{Ask, nothing, uncacheable, one_key, several_keys}
 use Rattle.planning.specs.Outcome as plan
-use Rattle.planning.specs.Passes.{outcome_on}
+use Rattle.planning.proofs.Passes.{outcome_on}
 use Rattle.shard_lookup.specs.Looked.{Told}
 use Rattle.shard_lookup.specs.declared.Looked.{Looked}
 use Rattle.shard_lookup.specs.declared.Looked.TheVariants.{Hit, Miss}

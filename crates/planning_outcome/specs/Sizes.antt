@@ -15,7 +15,7 @@ use Rattle.planning.specs.Ask.{Ask}
 use Rattle.planning.specs.Outcome.{CachingResult, wanted, outcomes}
 use Rattle.planning.specs.Sent.{sends, sent, command_values, sent_bytes}
 use Rattle.planning.specs.Plan.{enc_node, nodes_of, nodes}
-use Rattle.planning.specs.Passes.{outcomes_on, each-alone}
+use Rattle.planning.proofs.Passes.{outcomes_on, each-alone}
 use Rattle.planning_outcome.specs.Result.{outcome_for}
 use Rattle.planning_outcome.specs.Places.{outcome-on}
 use Rattle.planning_outcome.specs.Joined.{enc_all-append, sent-append}

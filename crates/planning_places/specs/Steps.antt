@@ -10,7 +10,7 @@ use Rattle.cursor.specs.Steps.{in_start, in-more, args_none, args_more}
 use Rattle.cursor.specs.declared.Args.{Args}
 use Rattle.book.specs.Book.{Row}
 use Rattle.planning.specs.Outcome.{Place, part_keys}
-use Rattle.planning.specs.Small.{simples-count}
+use Rattle.planning.proofs.Small.{simples-count}
 use Rattle.planning_ask.specs.Asked.{several_name, path_in, simples_of, SeveralIn, KeyStep}
 use Rattle.planning_ask.specs.declared.KeyAt.{KeyAt}
 use Rattle.planning_ask.specs.declared.Several.{Several}

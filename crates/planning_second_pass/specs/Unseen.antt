@@ -15,7 +15,7 @@ use Rattle.planning.specs.Outcome as plan
 use Rattle.planning.specs.Sent.{sends, sent_bytes}
 use Rattle.planning.specs.Plan.{enc_node, nodes_of}
 use Rattle.format.specs.Lists.{enc_all}
-use Rattle.planning.specs.Passes.{outcome_on}
+use Rattle.planning.proofs.Passes.{outcome_on}
 use Rattle.planning_outcome.specs.Result.{outcome_for}
 use Rattle.planning_outcome.specs.Places.{outcome-on}
 use Rattle.planning_look_up.specs.Finds.{dry-one}

@@ -26,7 +26,7 @@ use Rattle.cmd.specs.Laws.{Wrote}
 use Rattle.plan_write.specs.Wrote.{wrote-long}
 use Rattle.book.specs.Book.{Row, Setup}
 use Rattle.book.specs.Calls.{Wanted}
-use Rattle.planning.specs.Small.{parts-count}
+use Rattle.planning.proofs.Small.{parts-count}
 use Rattle.planning.specs.Outcome as plan
 use Rattle.planning.specs.Outcome.{filled, waiting, missing, whole_key, part_keys, Place}
 use Rattle.planning.specs.Sent.{Packed, itself, keys_of, pttls, packs, opt_in_first, sends, sent_bytes}

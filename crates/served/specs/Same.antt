@@ -20,7 +20,7 @@ use Rattle.resp3.specs.Law.{value-law, decode-law}
 use Rattle.book.specs.Book.{Setup, Row, after_all, answers}
 use Rattle.book.specs.Calls.{refusals, ons, stores, call-defs}
 use Rattle.arena.specs.Decode.{decode}
-use Rattle.arena.specs.Image.{decode-exact}
+use Rattle.arena.proofs.Image.{decode-exact}
 use Rattle.arena.specs.Held.{Held, lend, book_of}
 use Rattle.sharded_lru.specs.Lent.{setup_now}
 use Rattle.planning.specs.Plan as nodes

@@ -12,9 +12,10 @@ use Rattle.buffer.specs.Zero.{zeroed}
 use Rattle.buffer.specs.Move.{resized, spliced, rotated, resized-none}
 use Rattle.book.specs.Book.{Item, Row, row_bytes}
 use Rattle.arena.specs.Layout.{zeros, head, enc_items, enc_shard}
-use Rattle.arena.specs.Length.{length-head, length-items}
-use Rattle.arena.specs.Edit.{item_bytes, items-replaced, item-forward}
-use Rattle.arena.specs.Steps.{bytes-around}
+use Rattle.arena.proofs.Length.{length-head, length-items}
+use Rattle.arena.specs.Edit.{item_bytes}
+use Rattle.arena.proofs.Edit.{items-replaced, item-forward}
+use Rattle.arena.proofs.Steps.{bytes-around}
 use Rattle.shard.specs.Holds.{Holds, Stands}
 
 module _ {s : Bytes} {at : ℕ} {front back : Row} {it : Item} (w : Stands s at front back it) where

@@ -11,12 +11,13 @@ use Rattle.buffer.specs.Part.{part}
 use Rattle.buffer.specs.PartLaws.{part-past}
 use Rattle.book.specs.Book.{Item, Row, row_entries, entry_bytes, row_bytes}
 use Rattle.arena.specs.Layout.{zeros, head, enc_item, enc_items, enc_shard}
-use Rattle.arena.specs.Length.{length-head, length-items}
-use Rattle.arena.specs.Read.{Small, Smalls, head_first, head-second, key-length, entry-count, item-epoch, item-expiry, entries-length, item-key}
-use Rattle.arena.specs.Image.{items-few, entries-few}
+use Rattle.arena.proofs.Length.{length-head, length-items}
+use Rattle.arena.specs.Read.{Small, Smalls}
+use Rattle.arena.proofs.Read.{head_first, head-second, key-length, entry-count, item-epoch, item-expiry, entries-length, item-key}
+use Rattle.arena.proofs.Image.{items-few, entries-few}
 use Rattle.arena.specs.Edit.{item_bytes, place_after}
-use Rattle.arena.specs.Steps.{bytes-around}
-use Rattle.arena.specs.Pieces.{opened, row_bytes-append}
+use Rattle.arena.proofs.Steps.{bytes-around}
+use Rattle.arena.proofs.Pieces.{opened, row_bytes-append}
 use Rattle.shard.specs.Holds.{Holds, Stands}
 
 -- a row takes at least a byte for each entry

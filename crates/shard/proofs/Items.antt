@@ -9,7 +9,7 @@ use Rattle.buffer.specs.Cases.{by_test}
 use Rattle.buffer.specs.Same.{Bytes, same}
 use Rattle.buffer.specs.SameLaws.{same-eq}
 use Rattle.book.specs.Book.{Item, Row, find, without, replace, row_bytes}
-use Rattle.book.specs.Rows.{Place, without-absent}
+use Rattle.book.proofs.Rows.{Place, without-absent}
 use Rattle.book.specs.Sound.{Distinct}
 use Rattle.arena.specs.Edit.{item_bytes}
 use Rattle.shard.specs.declared.Position.TheVariants.{At, Absent}

@@ -6,7 +6,7 @@ use native.Mathlib.Omega.{arith}
 use mathlib.Core.List.{List, [], ◌∷◌, ◌++◌}
 use lib.Seq.{append_snoc}
 use Rattle.book.specs.Book.{row_bytes}
-use Rattle.arena.specs.Pieces.{row_bytes-append}
+use Rattle.arena.proofs.Pieces.{row_bytes-append}
 
 -- `bytes` counts the bytes of things one after the other, each of which takes some
 pub record Counting {A : Type 0} (bytes : List A → ℕ) : Type 0 where

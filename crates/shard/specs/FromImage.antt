@@ -6,10 +6,11 @@ use Rattle.buffer.specs.Part.{part}
 use Rattle.config.specs.Limits.{max_arena}
 use Rattle.book.specs.Book.{Setup, Row, row_bytes}
 use Rattle.arena.specs.Layout.{enc_shard}
-use Rattle.arena.specs.Length.{length-shard}
-use Rattle.arena.specs.Around.{shard-part}
+use Rattle.arena.proofs.Length.{length-shard}
+use Rattle.arena.proofs.Around.{shard-part}
 use Rattle.arena.specs.Tests.{FineRow}
-use Rattle.arena.specs.Image.{Sized, Image, row_small}
+use Rattle.arena.specs.Image.{Sized, Image}
+use Rattle.arena.proofs.Image.{row_small}
 use Rattle.shard.specs.Holds.{Holds}
 
 module _ (is_value : Bytes → Bool) (p : Setup) where

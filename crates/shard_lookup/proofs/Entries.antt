@@ -14,9 +14,9 @@ use Rattle.buffer.specs.Part.{part}
 use Rattle.buffer.specs.PartLaws.{part-past, part-within}
 use Rattle.book.specs.Book.{Entry, Item, Row, current, value_for, set_value, entry_bytes}
 use Rattle.arena.specs.Layout.{item_head, enc_entry, enc_entries, enc_item}
-use Rattle.arena.specs.Length.{length-item_head, length-entry, length-entries, length-item}
-use Rattle.arena.specs.Pieces.{enc_entries-append, entry_bytes-append}
-use Rattle.arena.specs.Read.{command-length, value-length, entry-command, entry_value}
+use Rattle.arena.proofs.Length.{length-item_head, length-entry, length-entries, length-item}
+use Rattle.arena.proofs.Pieces.{enc_entries-append, entry_bytes-append}
+use Rattle.arena.proofs.Read.{command-length, value-length, entry-command, entry_value}
 use Rattle.arena.specs.Edit.{item_bytes}
 use Rattle.arena.specs.Place.{entries_place}
 use Rattle.shard.specs.declared.Position.TheVariants.{At, Absent}

@@ -10,12 +10,12 @@ use borrow.Author.Tests.{eq-eqb, ne_eqb, le-leb, lt-leb}
 use Rattle.buffer.specs.Same.{Bytes}
 use Rattle.buffer.specs.Part.{part}
 use Rattle.book.specs.Book.{Item, Row, Effect, hit, miss, plus, find, without, value_for, current, serve, lookup_item}
-use Rattle.book.specs.Rows.{found-key}
+use Rattle.book.proofs.Rows.{found-key}
 use Rattle.arena.specs.Layout.{enc_item, enc_shard}
-use Rattle.arena.specs.Length.{length-item}
+use Rattle.arena.proofs.Length.{length-item}
 use Rattle.arena.specs.Edit.{item_bytes}
 use Rattle.arena.specs.Place.{entries_place, shard_place}
-use Rattle.arena.specs.PlaceLaws.{place-first}
+use Rattle.arena.proofs.PlaceLaws.{place-first}
 use Rattle.shard_lookup.specs.declared.Looked.TheVariants.{Hit, Miss}
 use Rattle.shard_lookup.specs.Looked.{Told}
 use Rattle.shard.proofs.Fields.{Pieces}

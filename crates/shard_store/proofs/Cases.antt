@@ -8,7 +8,7 @@ use lib.ListN.{length}
 use borrow.Author.Tests.{le-leb, lt-leb, eq-eqb, ne_eqb}
 use Rattle.buffer.specs.Same.{Bytes}
 use Rattle.book.specs.Book.{Item, Row, find, without_oldest, new_item, updated, room_for_one, stored_row}
-use Rattle.book.specs.Rows.{Place}
+use Rattle.book.proofs.Rows.{Place}
 use Rattle.arena.specs.Layout.{enc_shard}
 use Rattle.shard_store.specs.Store.{judged, Leaves}
 

@@ -10,7 +10,7 @@ use Rattle.buffer.specs.Same.{Bytes}
 use Rattle.book.specs.Book.{Item, Row, new_item, fits, if_fits, entry_bytes, row_bytes}
 use Rattle.arena.specs.Layout.{enc_shard}
 use Rattle.arena.specs.Edit.{item_bytes}
-use Rattle.arena.specs.Steps.{bytes-around}
+use Rattle.arena.proofs.Steps.{bytes-around}
 use Rattle.shard_store.specs.Store.{judged, Leaves}
 use Rattle.shard_write.specs.Places.{item_room}
 

@@ -10,9 +10,10 @@ use Rattle.buffer.specs.Field.{read32}
 use Rattle.config.specs.Limits.{max_arena}
 use Rattle.book.specs.Book.{Entry, Item, Row, value_for, entry_bytes, row_bytes}
 use Rattle.arena.specs.Layout.{enc_shard}
-use Rattle.arena.specs.Image.{entries-few}
+use Rattle.arena.proofs.Image.{entries-few}
 use Rattle.arena.specs.Edit.{item_bytes, place_after}
-use Rattle.arena.specs.Pieces.{item_of, entry_bytes-append}
+use Rattle.arena.specs.Pieces.{item_of}
+use Rattle.arena.proofs.Pieces.{entry_bytes-append}
 use Rattle.command_key.specs.Key.{key_bytes}
 use Rattle.shard.specs.declared.Position.TheVariants.{At, Absent}
 use Rattle.shard.specs.Holds.{Stands}

@@ -7,9 +7,9 @@ use lib.ListN.{length}
 use lib.Seq.{append_snoc}
 use Rattle.buffer.specs.Same.{Bytes}
 use Rattle.book.specs.Book.{Item, Row, without_oldest, row_bytes}
-use Rattle.book.specs.Rows.{oldest-goes}
+use Rattle.book.proofs.Rows.{oldest-goes}
 use Rattle.arena.specs.Edit.{item_bytes, place_after}
-use Rattle.arena.specs.Pieces.{row_bytes-append}
+use Rattle.arena.proofs.Pieces.{row_bytes-append}
 use Rattle.shard.specs.Holds.{Holds, Stands, ItemAt}
 
 -- an item of the row stands at `at`

@@ -10,10 +10,12 @@ use Rattle.buffer.specs.Part.{put}
 use Rattle.buffer.specs.Move.{resized, spliced, resized-put}
 use Rattle.book.specs.Book.{Entry, Row, new_item, entry_bytes, row_bytes}
 use Rattle.arena.specs.Layout.{enc_entry, enc_entries, enc_item, enc_shard}
-use Rattle.arena.specs.Length.{length-entry, length-item}
-use Rattle.arena.specs.Edit.{place_after, entries-replaced}
-use Rattle.arena.specs.Steps.{pushed}
-use Rattle.arena.specs.Pieces.{item_of, row_bytes-append, entry_bytes-append}
+use Rattle.arena.proofs.Length.{length-entry, length-item}
+use Rattle.arena.specs.Edit.{place_after}
+use Rattle.arena.proofs.Edit.{entries-replaced}
+use Rattle.arena.proofs.Steps.{pushed}
+use Rattle.arena.specs.Pieces.{item_of}
+use Rattle.arena.proofs.Pieces.{row_bytes-append, entry_bytes-append}
 use Rattle.shard_write.specs.Places.{new_entry, entry_room, item_room, Spliceable, Pushable, EntriesAt, Counts}
 use Rattle.shard_write.specs.declared.Fields.{Fields}
 

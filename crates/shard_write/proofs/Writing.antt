@@ -10,7 +10,7 @@ use Rattle.buffer.specs.Part.{put}
 use Rattle.buffer.specs.PartLaws.{put-put}
 use Rattle.book.specs.Book.{new_item, entry_bytes}
 use Rattle.arena.specs.Layout.{head, item_head, enc_entry, enc_entries, enc_item}
-use Rattle.arena.specs.Length.{length-item_head}
+use Rattle.arena.proofs.Length.{length-item_head}
 use Rattle.shard_write.specs.Places.{new_entry, entry_room, item_room}
 
 -- a write on what the writes before it left

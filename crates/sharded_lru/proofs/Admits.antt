@@ -14,7 +14,7 @@ use Rattle.config.specs.declared.CheckedConfig.TheVariants.{Fine, Refused as Bad
 use Rattle.resp3.specs.Ends.{is_value}
 use Rattle.siphash.specs.Sip.{sip_hash13}
 use Rattle.arena.specs.Decode.{is_image}
-use Rattle.arena.specs.Sizes.{sized}
+use Rattle.arena.proofs.Sizes.{sized}
 use Rattle.arena.specs.SetupOf.{setup_of}
 use Rattle.sharded_lru.specs.declared.Admitted.TheVariants.{Admits, Refused}
 use Rattle.sharded_lru.specs.Lent.{setup_now}

@@ -11,7 +11,7 @@ use Rattle.config.specs.declared.Settings.{Settings}
 use Rattle.siphash.specs.Shard.{shard_of}
 use Rattle.resp3.specs.Ends.{is_value}
 use Rattle.book.specs.Book.{Row, stored, no_space, lookup, store, on, key_of, effect_on}
-use Rattle.book.specs.Trace.{row_here}
+use Rattle.book.proofs.Trace.{row_here}
 use Rattle.arena.specs.Layout.{enc_shard}
 use Rattle.arena.specs.SetupOf.{setup_of}
 use Rattle.arena.specs.Place.{shard_place, arena_place}

@@ -12,8 +12,8 @@ use Rattle.buffer.specs.Same.{Bytes}
 use Rattle.config.specs.Limits.{max_arena}
 use Rattle.config.specs.declared.Settings.{Settings}
 use Rattle.book.specs.Book.{Row, row_entries, all_entries, invalidate_all, set_row}
-use Rattle.book.specs.SoundLaws.{sound-nil}
-use Rattle.book.specs.Trace.{row_here, row-elsewhere}
+use Rattle.book.proofs.SoundLaws.{sound-nil}
+use Rattle.book.proofs.Trace.{row_here, row-elsewhere}
 use Rattle.arena.specs.Layout.{enc_shard}
 use Rattle.arena.specs.SetupOf.{setup_of}
 use Rattle.shard.proofs.Fields.{all-few}

@@ -17,7 +17,7 @@ use Rattle.siphash.specs.Shard.{shard_of}
 use Rattle.resp3.specs.Ends.{is_value}
 use Rattle.book.specs.Book.{Row, Keyed, on, key_of, set_row}
 use Rattle.arena.specs.Layout.{enc_shard}
-use Rattle.arena.specs.Length.{length-shard}
+use Rattle.arena.proofs.Length.{length-shard}
 use Rattle.arena.specs.Tests.{FineRow}
 use Rattle.arena.specs.SetupOf.{setup_of}
 use Rattle.shard.specs.Holds.{Holds, Shard}

@@ -12,7 +12,7 @@ use Rattle.config.specs.declared.CheckedConfig.{CheckedConfig}
 use Rattle.config.specs.declared.CheckedConfig.TheVariants.{Fine, Refused as BadConfig}
 use Rattle.resp3.specs.Ends.{is_value}
 use Rattle.arena.specs.Decode.{read_arena, is_image, decode}
-use Rattle.arena.specs.Image.{decode-exact}
+use Rattle.arena.proofs.Image.{decode-exact}
 use Rattle.sharded_lru.specs.declared.Admitted.{Admitted}
 use Rattle.sharded_lru.specs.declared.Admitted.TheVariants.{Admits, Refused}
 use Rattle.sharded_lru.specs.Lent.{setup_now, Lent, Arena}

@@ -4,11 +4,13 @@ use Rattle.std.proofs.Common.{le-leb}
 use Rattle.buffer.specs.Same.{Bytes}
 use Rattle.resp3.specs.Ends.{is_value}
 use Rattle.book.specs.Book.{Setup, Row, Keyed, store, key_of, effect_on}
-use Rattle.book.specs.EachLaws.{each-effect_on}
-use Rattle.book.specs.SoundLaws.{sound-effect_on}
-use Rattle.book.specs.Storable.{StorableItem, StorableKeyed, brings-storable}
+use Rattle.book.proofs.EachLaws.{each-effect_on}
+use Rattle.book.proofs.SoundLaws.{sound-effect_on}
+use Rattle.book.specs.Storable.{StorableItem}
+use Rattle.book.proofs.Storable.{StorableKeyed, brings-storable}
 use Rattle.arena.specs.Decode.{may_store}
-use Rattle.arena.specs.Tests.{yes-every, FineRow}
+use Rattle.arena.specs.Tests.{FineRow}
+use Rattle.arena.proofs.Tests.{yes-every}
 use Rattle.shard_store.specs.Store.{Storable}
 
 -- what an event may store

@@ -15,12 +15,13 @@ use Rattle.config.specs.declared.Settings.{Settings}
 use Rattle.siphash.specs.Sip.{sip_hash13}
 use Rattle.resp3.specs.Ends.{is_value}
 use Rattle.book.specs.Book.{Setup, Row, Book, Event, on, invalidate_all, new_epoch, row_bytes, set_row, put as put_row, effect, after}
-use Rattle.book.specs.Trace.{Proper, row_here, row-elsewhere}
+use Rattle.book.proofs.Trace.{Proper, row_here, row-elsewhere}
 use Rattle.arena.specs.Layout.{enc_shard, encode}
-use Rattle.arena.specs.Length.{length-shard}
-use Rattle.arena.specs.Around.{shard-put}
+use Rattle.arena.proofs.Length.{length-shard}
+use Rattle.arena.proofs.Around.{shard-put}
 use Rattle.arena.specs.Tests.{FineRow, WellFormed}
-use Rattle.arena.specs.Image.{Sized, encode_injective}
+use Rattle.arena.specs.Image.{Sized}
+use Rattle.arena.proofs.Image.{encode_injective}
 use Rattle.arena.specs.SetupOf.{setup_of}
 use Rattle.shard.specs.Holds.{Holds}
 use Rattle.shard.specs.FromImage.{image_holds}

@@ -23,7 +23,7 @@ use Rattle.book.specs.Book.{after, after_all, answer_to}
 use Rattle.book.specs.Calls.{ons, call-defs}
 use Rattle.arena.specs.Layout.{encode}
 use Rattle.arena.specs.Decode.{read_arena, decode}
-use Rattle.arena.specs.Image.{decodes}
+use Rattle.arena.proofs.Image.{decodes}
 use Rattle.arena.specs.Place.{arena_place}
 use Rattle.arena.specs.Held.{Held, lend}
 use Rattle.command_key.specs.Key.{key_bytes}

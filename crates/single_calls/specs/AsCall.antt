@@ -5,7 +5,7 @@ use Rattle.buffer.specs.Same.{Bytes}
 use Rattle.config.specs.Causes.{too_long, bad_reply, bad_arena}
 use Rattle.book.specs.Book.{Keyed, lookup, store, invalidate}
 use Rattle.book.specs.Calls.{Call, single, refused}
-use Rattle.arena.specs.Sequence.{Outcome, no_image, denied, said, Result}
+use Rattle.arena.proofs.Sequence.{Outcome, no_image, denied, said, Result}
 use Rattle.call_entry.specs.Entered.{no_cause}
 use Rattle.single_calls.specs.Single.{Return, overlong, wrong_bytes, number_of, served_by}
 

@@ -13,9 +13,9 @@ use Rattle.config.specs.declared.CheckedConfig.TheVariants.{Fine}
 use Rattle.resp3.specs.Ends.{is_value}
 use Rattle.book.specs.Book.{Setup, Row, Keyed, lookup, store, invalidate, answers}
 use Rattle.book.specs.Calls.{refused, ons, events_of, call-defs}
-use Rattle.book.specs.Storable.{StorableEvents}
+use Rattle.book.proofs.Storable.{StorableEvents}
 use Rattle.arena.specs.Decode.{may_store, decode}
-use Rattle.arena.specs.Sequence.{denied, outcome_of, call_with, call_on}
+use Rattle.arena.proofs.Sequence.{denied, outcome_of, call_with, call_on}
 use Rattle.arena.specs.Held.{Held}
 use Rattle.shard_store.specs.Store.{Storable}
 use Rattle.sharded_lru.specs.Lent.{setup_now}

@@ -7,9 +7,9 @@ use Rattle.config.specs.Laws.{passed}
 use Rattle.config.specs.declared.Settings.{Settings}
 use Rattle.config.specs.declared.CheckedConfig.TheVariants.{Fine}
 use Rattle.book.specs.Book.{Counts, fresh}
-use Rattle.arena.specs.Empty.{zeros-empty}
+use Rattle.arena.proofs.Empty.{zeros-empty}
 use Rattle.arena.specs.Held.{lend}
-use Rattle.arena.specs.Sizes.{sized}
+use Rattle.arena.proofs.Sizes.{sized}
 use Rattle.arena.specs.SetupOf.{setup_for}
 use Rattle.single_calls.specs.Setup.{fresh_arena}
 

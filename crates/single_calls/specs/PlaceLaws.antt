@@ -15,12 +15,13 @@ use Rattle.siphash.specs.Sip.{sip_hash13}
 use Rattle.resp3.specs.Ends.{is_value}
 use Rattle.book.specs.Book.{Setup, Row, Book, Counts, Keyed, lookup, key_of, after, after_all, effect, put, answer_to, answers}
 use Rattle.book.specs.Calls.{Call, ons, after_call, reply_to, call-defs}
-use Rattle.book.specs.Trace.{Proper}
+use Rattle.book.proofs.Trace.{Proper}
 use Rattle.arena.specs.Decode.{decode}
 use Rattle.arena.specs.Tests.{WellFormed}
-use Rattle.arena.specs.Image.{Sized, encoded-length, decode-encode}
-use Rattle.arena.specs.Sizes.{sized, proper}
-use Rattle.arena.specs.Sequence.{outcome_of, one-call}
+use Rattle.arena.specs.Image.{Sized}
+use Rattle.arena.proofs.Image.{encoded-length, decode-encode}
+use Rattle.arena.proofs.Sizes.{sized, proper}
+use Rattle.arena.proofs.Sequence.{outcome_of, one-call}
 use Rattle.arena.specs.Held.{Held, lend}
 use Rattle.arena.specs.Place.{arena_place}
 use Rattle.sharded_lru.specs.Lent.{setup_now}

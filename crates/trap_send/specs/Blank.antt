@@ -12,14 +12,14 @@ use Rattle.cursor.specs.At.{range_bytes, RangeIn, command_of}
 use Rattle.cursor.specs.declared.Head.{Head}
 use Rattle.cursor.specs.declared.Range.{Range}
 use Rattle.book.specs.Book.{Row, find, lookup_item, effect_on}
-use Rattle.book.specs.SoundLaws.{sound-nil}
+use Rattle.book.proofs.SoundLaws.{sound-nil}
 use Rattle.book.specs.Calls.{Wanted}
-use Rattle.arena.specs.Empty.{zeros-empty}
+use Rattle.arena.proofs.Empty.{zeros-empty}
 use Rattle.planning.specs.Ask as asks
 use Rattle.planning.specs.Ask.{ask}
 use Rattle.planning.specs.Outcome as plan
 use Rattle.planning.specs.Sent.{keys_of, sends, sent_bytes}
-use Rattle.planning.specs.Small.{parts-count}
+use Rattle.planning.proofs.Small.{parts-count}
 use Rattle.planning_ask.specs.Asked.{several_name, path_in, keys_in, wanted_in, SeveralIn}
 use Rattle.planning_ask.specs.declared.Several.{Several}
 use Rattle.sharded_lru.specs.Laws.{sized, lent_same}

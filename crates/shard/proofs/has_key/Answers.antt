@@ -6,7 +6,7 @@ use lib.ListN.{length}
 use Rattle.buffer.specs.Part.{part}
 use Rattle.buffer.specs.Same.{Bytes, same}
 use Rattle.buffer.specs.SameLaws.{same_length}
-use Rattle.book.specs.Rows.{same-comm}
+use Rattle.book.proofs.Rows.{same-comm}
 use Rattle.shard.proofs.Fields.{fields}
 use Rattle.shard.proofs.has_key.Goals as goal
 

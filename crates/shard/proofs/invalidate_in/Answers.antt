@@ -1,7 +1,7 @@
 -- `invalidate_in` meets its contract: the key's item is removed, or there is none. Assumes nothing.
 use mathlib.Core.Path.{sym, ap, ◌∙◌}
 use Rattle.book.specs.Book.{Row, entries_of}
-use Rattle.book.specs.Rows.{without-absent}
+use Rattle.book.proofs.Rows.{without-absent}
 use Rattle.arena.specs.Layout.{enc_shard}
 use Rattle.shard.specs.Holds.{Holds}
 use Rattle.shard.proofs.Items.{KeyAt, key-at, item-at, no_item}

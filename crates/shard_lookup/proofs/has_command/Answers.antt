@@ -6,7 +6,7 @@ use lib.ListN.{length}
 use Rattle.buffer.specs.Part.{part}
 use Rattle.buffer.specs.Same.{Bytes, same}
 use Rattle.buffer.specs.SameLaws.{same_length}
-use Rattle.book.specs.Rows.{same-comm}
+use Rattle.book.proofs.Rows.{same-comm}
 use Rattle.command_key.specs.Key.{key_bytes}
 use Rattle.shard_lookup.proofs.Entries.{entry-fields}
 use Rattle.shard_lookup.proofs.has_command.Goals as goal

@@ -1,7 +1,7 @@
 -- `store_front` meets its contract: the space after is the new item's more (`front-space`). Assumes nothing.
 use native.Mathlib.Omega.{arith}
 use Rattle.shard.proofs.Fields.{count-read, used-read}
-use Rattle.arena.specs.Image.{items-few}
+use Rattle.arena.proofs.Image.{items-few}
 use Rattle.shard_store.proofs.Judging.{refused, kept, front-space}
 use borrow.Author.Rules.{rules}
 use Rattle.shard_store.proofs.store_front.Goals as goal

@@ -6,7 +6,7 @@ use Rattle.arena.specs.Layout.{enc_shard}
 use native.Mathlib.Omega.{arith}
 use mathlib.Core.List.{◌∷◌, ◌++◌}
 use lib.ListN.{length}
-use Rattle.arena.specs.Length.{length-shard}
+use Rattle.arena.proofs.Length.{length-shard}
 use Rattle.shard.proofs.Fields.{fields, count-read, used-read}
 use Rattle.shard_store.proofs.Judging.{refused, kept, front-space, instead-space, same_count}
 use borrow.Author.Rules.{rules}

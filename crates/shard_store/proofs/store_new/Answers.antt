@@ -5,7 +5,7 @@ use mathlib.Core.List.{[], ◌∷◌, append-nil}
 use lib.ListN.{length}
 use Rattle.book.specs.Book.{Row, new_item, without_oldest}
 use Rattle.shard.proofs.Fields.{count-read}
-use Rattle.arena.specs.Image.{items-few}
+use Rattle.arena.proofs.Image.{items-few}
 use Rattle.shard_store.proofs.Walk.{some_item, newest-stands, last_of, last-stands}
 use Rattle.shard_store.proofs.Cases.{same_rows, case-new, case-evict}
 use borrow.Author.Rules.{rules}

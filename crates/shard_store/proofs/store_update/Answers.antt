@@ -3,7 +3,7 @@ use native.Mathlib.Omega.{arith}
 use mathlib.Core.Path.{refl, sym, ◌∙◌}
 use mathlib.Core.List.{[], ◌∷◌}
 use lib.ListN.{length}
-use Rattle.arena.specs.Stores.{set_new}
+use Rattle.arena.proofs.Stores.{set_new}
 use Rattle.shard.proofs.Fields.{fields}
 use Rattle.shard_lookup.specs.Whole.{whole_in}
 use Rattle.shard_lookup.proofs.Entries.{entry-fields}

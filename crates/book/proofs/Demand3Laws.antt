@@ -16,11 +16,12 @@ use Rattle.book.specs.Book.{fits, if_fits, key_of, effect_on, effect, put, after
 use Rattle.book.specs.Calls.{Storing, Call, planning, resolving, resolving7, push, push_all, single, take_epoch, refused, lookups, stores}
 use Rattle.book.specs.Calls.{invalidations, ons, events_of, is_refused, after_call, reply_to, refusals, after_calls, replies, run}
 use Rattle.book.specs.Calls.{call-defs}
-use Rattle.book.specs.Trace.{Proper, SoundBook, sound, none-beyond, run-onto, run-traced}
-use Rattle.book.specs.Tally.{hits-tallied, misses-tallied}
-use Rattle.book.specs.Lookups.{lookup-miss}
-use Rattle.book.specs.Residents.{served-by}
-use Rattle.book.specs.Exchange.{commute, swapped}
+use Rattle.book.specs.Trace.{SoundBook}
+use Rattle.book.proofs.Trace.{Proper, sound, none-beyond, run-onto, run-traced}
+use Rattle.book.proofs.Tally.{hits-tallied, misses-tallied}
+use Rattle.book.proofs.Lookups.{lookup-miss}
+use Rattle.book.proofs.Residents.{served-by}
+use Rattle.book.proofs.Exchange.{commute, swapped}
 use Rattle.book.specs.Demand3.{nth, shard_after, lacking, epochs_in, book_of, trace_of, LookupIn, gets, past, Demand3}
 
 -- ---- calls in turn

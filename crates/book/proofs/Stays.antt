@@ -10,7 +10,7 @@ use Rattle.book.specs.Book.{Item, Setup, Book, Keyed, lookup, store, invalidate,
 use Rattle.book.specs.Book.{key_of, effect_on, effect, after, answer_to}
 use Rattle.book.specs.Trace.{SoundBook}
 use Rattle.book.specs.Residence.{item_of, has_under, leaves, ends, KeptStore, is_stored, kept_by, opening}
-use Rattle.book.specs.Items.{stored_item, evicts, turned, turned-defs, item-after}
+use Rattle.book.proofs.Items.{stored_item, evicts, turned, turned-defs, item-after}
 
 -- ---- keys
 

@@ -9,13 +9,13 @@ use Rattle.buffer.specs.Cases.{by_test}
 use Rattle.buffer.specs.Same.{Bytes, same}
 use Rattle.buffer.specs.SameLaws.{same-eq}
 use Rattle.book.specs.Book.{Entry, Item, Setup, Book, Counts, hit, lookup, Event, on, fresh, find, value_for, set_value, answer_to}
-use Rattle.book.specs.Rows.{same-comm, value_set, value-set-other}
+use Rattle.book.proofs.Rows.{same-comm, value_set, value-set-other}
 use Rattle.book.specs.Calls.{run}
-use Rattle.book.specs.Trace.{sound}
+use Rattle.book.proofs.Trace.{sound}
 use Rattle.book.specs.Residence.{item_of, has_under, ends, KeptStore, is_stored, kept_by, cons_if, kept_in, opening, Lasts, Residence, latest_of}
 use Rattle.book.specs.Residence.{latest_under, later_stores, stores_of, expiry_of, ServedBy}
-use Rattle.book.specs.Lookups.{lookup-answer, Serving, serving}
-use Rattle.book.specs.Stays.{grown, brought, opening-brings, opening-ends, stay-grows, Arrived, stayed, opened, arrived}
+use Rattle.book.proofs.Lookups.{lookup-answer, Serving, serving}
+use Rattle.book.proofs.Stays.{grown, brought, opening-brings, opening-ends, stay-grows, Arrived, stayed, opened, arrived}
 
 -- ---- an item and the stores that it comes from
 

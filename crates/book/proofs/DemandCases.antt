@@ -5,11 +5,11 @@ use Rattle.std.proofs.Common.{arith}
 use Rattle.std.proofs.Math.Option.{some}
 use Rattle.book.specs.Book.{hit, miss, lookup, store, on}
 use Rattle.book.specs.Calls.{Call, planning, single}
-use Rattle.book.specs.Cases.{holding, none_yet, a, b, get, u}
-use Rattle.book.specs.CallCases.{wanted, case-defs}
-use Rattle.book.specs.Trace.{Proper}
+use Rattle.book.proofs.Cases.{holding, none_yet, a, b, get, u}
+use Rattle.book.proofs.CallCases.{wanted, case-defs}
+use Rattle.book.proofs.Trace.{Proper}
 use Rattle.book.specs.Demand3.{LookupIn, gets, nth, IsServed}
-use Rattle.book.specs.Demand3Laws.{demand-three}
+use Rattle.book.proofs.Demand3Laws.{demand-three}
 
 -- the sequence
 abbrev pub planned-after-store : List Call

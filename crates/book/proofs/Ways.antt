@@ -11,13 +11,14 @@ use Rattle.buffer.specs.Same.{Bytes, same}
 use Rattle.buffer.specs.SameLaws.{same_refl, same-eq}
 use Rattle.book.specs.Book.{Item, Row, Setup, Book, Counts, fresh, Answer, hit, miss, stored, no_space, invalidated, number, lookup, store}
 use Rattle.book.specs.Book.{invalidate, Event, on, invalidate_all, new_epoch, find, current, updated, effect_on, effect, answer_to}
-use Rattle.book.specs.Rows.{is_oldest}
+use Rattle.book.proofs.Rows.{is_oldest}
 use Rattle.book.specs.Calls.{run}
-use Rattle.book.specs.Trace.{SoundBook, sound}
+use Rattle.book.specs.Trace.{SoundBook}
+use Rattle.book.proofs.Trace.{sound}
 use Rattle.book.specs.Residence.{item_of, has_under, ends, is_stored, Residence, expiry_of}
-use Rattle.book.specs.Items.{absent, evicts, turned, turned-defs, item-after}
-use Rattle.book.specs.Residents.{has-item}
-use Rattle.book.specs.Stays.{answer-here, stays, gone-ends, opening-ends}
+use Rattle.book.proofs.Items.{absent, evicts, turned, turned-defs, item-after}
+use Rattle.book.proofs.Residents.{has-item}
+use Rattle.book.proofs.Stays.{answer-here, stays, gone-ends, opening-ends}
 
 -- the ways in which an event on the book `bk` ends the stay of k's item, which has this epoch and expiry
 pub data Way (p : Setup) (k : Bytes) (bk : Book) (epoch expiry : ℕ) : Event → Type 0 where

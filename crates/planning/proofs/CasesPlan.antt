@@ -10,8 +10,8 @@ use Rattle.planning.specs.Ask.{ask}
 use Rattle.planning.specs.Outcome.{outcomes}
 use Rattle.planning.specs.Plan.{Node, hand_on, served_value, all_served, missing_key, several, waiting_place, end_of_several, nodes, plan_of, enc_plan, plan-defs}
 use Rattle.planning.specs.Planning.{call_of, because, done, planned_from, plan_on, planning-defs}
-use Rattle.planning.specs.Cases.{all, word, plain, flagged, under, get-a, u}
-use Rattle.planning.specs.CasesSent.{sent-case-defs}
+use Rattle.planning.proofs.Cases.{all, word, plain, flagged, under, get-a, u}
+use Rattle.planning.proofs.CasesSent.{sent-case-defs}
 
 -- the nodes of some commands where their lookups answer so
 unfoldable pub rows : List Command → List Answer → List Node

@@ -7,7 +7,7 @@ use Rattle.book.specs.Book.{fresh, lookup, store, invalidate, Event, on, invalid
 use Rattle.book.specs.Calls.{run, push_all, single, shards_of, homes, NoneCommon}
 use Rattle.book.specs.Residence.{item_of, has_under, leaves, ends, KeptStore, is_stored, kept_by, cons_if, kept_in, opening, Residence, latest_of}
 use Rattle.book.specs.Residence.{latest_under, later_stores, stores_of, expiry_of}
-use Rattle.book.specs.Cases.{holding, none_yet, a, b, d, get, len, u, w, key3, command6, value7}
+use Rattle.book.proofs.Cases.{holding, none_yet, a, b, d, get, len, u, w, key3, command6, value7}
 
 -- whether an event ends the stay of a's item after the trace
 unfoldable pub ends_after : Event → List Event → Bool

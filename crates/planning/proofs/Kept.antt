@@ -26,8 +26,8 @@ use Rattle.planning.specs.Outcome.{single_item, multiple_item, missing, outcome,
 use Rattle.planning.specs.Plan.{end_of_several, value_nodes, place_nodes, served_nodes, missing_nodes, nodes_of, nodes, plan_of}
 use Rattle.planning.specs.Planning.{planned_by, planned_from}
 use Rattle.planning.specs.Rules.{GoodWanted, GoodNode, GoodPlan, IsPlan}
-use Rattle.planning.specs.Small.{Short, after-short, after-count, but-last-short, but-last-count, last-short, key-short, parts-good, parts-count}
-use Rattle.planning.specs.Order.{in_order}
+use Rattle.planning.proofs.Small.{Short, after-short, after-count, but-last-short, but-last-count, last-short, key-short, parts-good, parts-count}
+use Rattle.planning.proofs.Order.{in_order}
 
 -- ---- lists of good things
 

@@ -6,8 +6,9 @@ use Rattle.buffer.specs.Move.{spliced}
 use Rattle.buffer.specs.Part.{put}
 use Rattle.book.specs.Book.{Item, Row, row_bytes}
 use Rattle.arena.specs.Layout.{enc_item, enc_items, enc_shard}
-use Rattle.arena.specs.Edit.{item_bytes, place_after, items-replaced}
-use Rattle.arena.specs.Pieces.{row_bytes-append}
+use Rattle.arena.specs.Edit.{item_bytes, place_after}
+use Rattle.arena.proofs.Edit.{items-replaced}
+use Rattle.arena.proofs.Pieces.{row_bytes-append}
 
 -- a row with one item more takes its bytes more
 pub bytes-around : (front back : Row) (it : Item) → row_bytes (front ++ (it ∷ back)) ≡ item_bytes it + row_bytes (front ++ back)

@@ -12,11 +12,11 @@ use Rattle.buffer.specs.Same.{Bytes, same}
 use Rattle.buffer.specs.Part.{part}
 use Rattle.buffer.specs.PartLaws.{part-past, part-part}
 use Rattle.book.specs.Book.{Setup, Entry, Item, Row, find, value_for, entry_bytes, row_bytes}
-use Rattle.book.specs.Trace.{Proper}
+use Rattle.book.proofs.Trace.{Proper}
 use Rattle.arena.specs.Layout.{head, item_head, enc_entry, enc_entries, enc_item, enc_items, enc_shard, encode}
-use Rattle.arena.specs.Length.{length-head, length-item_head, length-entry, length-item}
-use Rattle.arena.specs.Read.{entry_value}
-use Rattle.arena.specs.Around.{shard-part}
+use Rattle.arena.proofs.Length.{length-head, length-item_head, length-entry, length-item}
+use Rattle.arena.proofs.Read.{entry_value}
+use Rattle.arena.proofs.Around.{shard-part}
 use Rattle.arena.specs.Tests.{WellFormed}
 use Rattle.arena.specs.Image.{Sized}
 use Rattle.arena.specs.Place.{entries_place, items_place, shard_place, arena_place}

@@ -8,10 +8,10 @@ use Rattle.buffer.specs.Same.{Bytes, same}
 use Rattle.buffer.specs.SameLaws.{same-eq}
 use Rattle.book.specs.Book.{Entry, Item, Row, Setup, Keyed, lookup, store, invalidate, find, without, replace, without_oldest, value_for}
 use Rattle.book.specs.Book.{set_value, row_bytes, current, serve, lookup_item, new_item, updated, room_for_one, stored_row, fits, if_fits, key_of, effect_on}
-use Rattle.book.specs.Rows.{not-absent, find-without, find-without-other, without-absent, found-key, find-replace-other, value-set-other}
-use Rattle.book.specs.Rows.{Place, place, is_oldest, find-without_oldest}
+use Rattle.book.proofs.Rows.{not-absent, find-without, find-without-other, without-absent, found-key, find-replace-other, value-set-other}
+use Rattle.book.proofs.Rows.{Place, place, is_oldest, find-without_oldest}
 use Rattle.book.specs.Each.{Brings}
-use Rattle.book.specs.EachLaws.{each-effect_on}
+use Rattle.book.proofs.EachLaws.{each-effect_on}
 use Rattle.book.specs.Sound.{Distinct, DistinctCommands, SoundItem, Sound}
 
 -- ---- keys distinct

@@ -9,7 +9,7 @@ use Rattle.book.specs.Book.{Answer, hit, miss}
 use Rattle.planning.specs.Ask.{ask}
 use Rattle.planning.specs.Outcome.{outcomes}
 use Rattle.planning.specs.Sent.{Packed, sent, wrapped, Responses, responses, sent_bytes, sent-defs}
-use Rattle.planning.specs.Cases.{all, opt_in, word, plain, flagged, with_cursor, get-a, u, case-defs}
+use Rattle.planning.proofs.Cases.{all, opt_in, word, plain, flagged, with_cursor, get-a, u, case-defs}
 
 -- what is sent for some commands where their lookups answer so: as commands, as bytes, and the responses
 unfoldable pub commands : Settings → Bool → List Command → List Answer → List Packed

@@ -6,7 +6,7 @@ use Rattle.buffer.specs.Same.{Bytes}
 use Rattle.book.specs.Book.{Row, Counts, fresh, plus, new_item, Answer, hit, miss, stored, no_space, number, store, book-defs}
 use Rattle.book.specs.Calls.{Wanted, Storing, Call, planning, resolving, resolving7, push, push_all, single, take_epoch, refused, refusals}
 use Rattle.book.specs.Calls.{after_calls, replies, lookups, stores, invalidations, ons, call-defs}
-use Rattle.book.specs.Cases.{holding, none_yet, a, b, d, get, len, u, w}
+use Rattle.book.proofs.Cases.{holding, none_yet, a, b, d, get, len, u, w}
 
 unfoldable pub said : List Call → List (Option (List Answer))
 said cs = replies (holding 400) cs (fresh none_yet)

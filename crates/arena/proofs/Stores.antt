@@ -15,7 +15,7 @@ use Rattle.book.specs.Each.{Each}
 use Rattle.book.specs.Sound.{DistinctCommands, Sound}
 use Rattle.format.specs.Runs.{all_append}
 use Rattle.format.specs.Lists.{All}
-use Rattle.arena.specs.Pieces.{entry_bytes-append}
+use Rattle.arena.proofs.Pieces.{entry_bytes-append}
 
 -- ---- the stores
 

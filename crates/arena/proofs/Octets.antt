@@ -9,8 +9,8 @@ use Rattle.book.specs.Book.{Setup, Entry, Item, Row, lookup, store, invalidate, 
 use Rattle.book.specs.Each.{Each}
 use Rattle.format.specs.Lists.{All}
 use Rattle.arena.specs.Layout.{zeros, head, item_head, enc_entry, enc_entries, enc_item, enc_items, enc_shard, enc_shards, encode}
-use Rattle.arena.specs.Around.{around}
-use Rattle.arena.specs.Stores.{storing}
+use Rattle.arena.proofs.Around.{around}
+use Rattle.arena.proofs.Stores.{storing}
 
 -- the arguments of an event are bytes
 abbrev pub EventOctets : Event → Type 0

@@ -8,9 +8,9 @@ use Rattle.buffer.specs.Same.{Bytes}
 use Rattle.buffer.specs.Part.{part, put}
 use Rattle.buffer.specs.PartLaws.{part_at, put-at}
 use Rattle.book.specs.Book.{Setup, Row, row_bytes, set_row}
-use Rattle.book.specs.Trace.{row_here, row-elsewhere}
+use Rattle.book.proofs.Trace.{row_here, row-elsewhere}
 use Rattle.arena.specs.Layout.{zeros, enc_shard, enc_shards, encode}
-use Rattle.arena.specs.Length.{length-shard, length-shards}
+use Rattle.arena.proofs.Length.{length-shard, length-shards}
 
 -- ---- rows where one was set
 

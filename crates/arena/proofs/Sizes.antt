@@ -11,10 +11,10 @@ use Rattle.config.specs.Laws.{Passed, passed}
 use Rattle.config.specs.declared.Settings.{Settings}
 use Rattle.config.specs.declared.CheckedConfig.TheVariants.{Fine}
 use Rattle.book.specs.Book.{Counts}
-use Rattle.book.specs.Trace.{Proper}
+use Rattle.book.proofs.Trace.{Proper}
 use Rattle.arena.specs.Decode.{decode}
 use Rattle.arena.specs.Image.{Sized}
-use Rattle.arena.specs.Cause9.{LeftBy, cause-nine}
+use Rattle.arena.proofs.Cause9.{LeftBy, cause-nine}
 use Rattle.arena.specs.SetupOf.{setup_of, setup_for}
 
 module _ (hash : Bytes → ℕ) (size mode ttl n : ℕ) (g : Settings) (w : Passed size mode ttl n g) where

@@ -8,7 +8,7 @@ use Rattle.buffer.specs.Cases.{by_test}
 use Rattle.buffer.specs.Same.{Bytes, same}
 use Rattle.book.specs.Book.{Item, Row, Setup, Keyed, lookup, store, invalidate, find, without, replace, without_oldest, value_for, current}
 use Rattle.book.specs.Book.{serve, lookup_item, updated, room_for_one, stored_row, if_fits, effect_on}
-use Rattle.book.specs.Rows.{found-key}
+use Rattle.book.proofs.Rows.{found-key}
 use Rattle.book.specs.Each.{Each, Brings}
 
 module _ (P : Item → Type 0) where

@@ -9,10 +9,10 @@ use Rattle.book.specs.Book.{Setup, Entry, Item, Row, Book, Counts, Keyed, key_of
 use Rattle.book.specs.Calls.{Call, single, ons, after_call, after_calls, call-defs}
 use Rattle.book.specs.Each.{Each}
 use Rattle.book.specs.Sound.{SoundItem, Sound}
-use Rattle.book.specs.Trace.{row_here, row-elsewhere}
+use Rattle.book.proofs.Trace.{row_here, row-elsewhere}
 use Rattle.format.specs.Runs.{all_append}
 use Rattle.format.specs.Lists.{All}
-use Rattle.arena.specs.Stores.{storing, making, making-all, row_after, made}
+use Rattle.arena.proofs.Stores.{storing, making, making-all, row_after, made}
 
 -- the stores that make the first n rows
 unfoldable pub building : ℕ → (ℕ → Row) → List Keyed

@@ -8,12 +8,13 @@ use mathlib.Core.List.{List, [], ◌∷◌, ◌++◌, append_assoc, append-nil}
 use Rattle.buffer.specs.Same.{Bytes}
 use Rattle.book.specs.Book.{Setup, Row, Book, Counts, Answer, fresh}
 use Rattle.book.specs.Calls.{Call, after_call, reply_to, after_calls, replies}
-use Rattle.book.specs.Trace.{Proper}
-use Rattle.book.specs.Storable.{StorableCalls}
+use Rattle.book.proofs.Trace.{Proper}
+use Rattle.book.proofs.Storable.{StorableCalls}
 use Rattle.arena.specs.Decode.{may_store, decode}
 use Rattle.arena.specs.Tests.{WellFormed}
-use Rattle.arena.specs.Image.{Sized, encoded-length, decode-encode}
-use Rattle.arena.specs.Keeps.{formed}
+use Rattle.arena.specs.Image.{Sized}
+use Rattle.arena.proofs.Image.{encoded-length, decode-encode}
+use Rattle.arena.proofs.Keeps.{formed}
 use Rattle.arena.specs.Held.{Held, book_of, lend}
 
 -- what a call comes to

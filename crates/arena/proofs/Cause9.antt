@@ -11,19 +11,21 @@ use Rattle.buffer.specs.Field.{Octets}
 use Rattle.book.specs.Book.{Setup, Entry, Item, Row, Book, Counts, Keyed, Event, on, fresh}
 use Rattle.book.specs.Calls.{Call, ons, events_of, after_calls}
 use Rattle.book.specs.Each.{Each}
-use Rattle.book.specs.Trace.{Proper}
-use Rattle.book.specs.Storable.{StorableEntries, StorableEvent, StorableCalls}
+use Rattle.book.proofs.Trace.{Proper}
+use Rattle.book.specs.Storable.{StorableEntries}
+use Rattle.book.proofs.Storable.{StorableEvent, StorableCalls}
 use Rattle.format.specs.Lists.{All}
 use Rattle.arena.specs.Layout.{encode}
 use Rattle.arena.specs.Decode.{may_store, decode}
 use Rattle.arena.specs.Tests.{Fits}
-use Rattle.arena.specs.Image.{Sized, Image, decode-exact, decode-encode}
-use Rattle.arena.specs.Keeps.{formed}
-use Rattle.arena.specs.Sequence.{held_after, sequence-leaves}
+use Rattle.arena.specs.Image.{Sized, Image}
+use Rattle.arena.proofs.Image.{decode-exact, decode-encode}
+use Rattle.arena.proofs.Keeps.{formed}
+use Rattle.arena.proofs.Sequence.{held_after, sequence-leaves}
 use Rattle.arena.specs.Held.{Held, lend}
-use Rattle.arena.specs.Stores.{storing}
-use Rattle.arena.specs.Reach.{building, building-all, singles, not_yet, reached}
-use Rattle.arena.specs.Octets.{EventOctets, arena-octets}
+use Rattle.arena.proofs.Stores.{storing}
+use Rattle.arena.proofs.Reach.{building, building-all, singles, not_yet, reached}
+use Rattle.arena.proofs.Octets.{EventOctets, arena-octets}
 
 -- the arguments of all calls are bytes
 abbrev pub CallsOctets : List Call → Type 0

@@ -6,8 +6,8 @@ use Rattle.buffer.specs.Same.{Bytes}
 use Rattle.book.specs.Book.{Setup, Book, Counts, Event, fresh}
 use Rattle.book.specs.Calls.{Call, after_calls, run, traced}
 use Rattle.book.specs.Sound.{Sound}
-use Rattle.book.specs.Storable.{StorableCalls, storable}
-use Rattle.book.specs.Trace.{Proper, sound, none-beyond, run-traced}
+use Rattle.book.proofs.Storable.{StorableCalls, storable}
+use Rattle.book.proofs.Trace.{Proper, sound, none-beyond, run-traced}
 use Rattle.arena.specs.Decode.{may_store}
 use Rattle.arena.specs.Tests.{WellFormed}
 

@@ -11,7 +11,8 @@ use Rattle.config.specs.declared.Settings.{Settings}
 use Rattle.call_record.specs.Record.{Command, Record}
 use Rattle.book.specs.Book.{Setup, Book, Answer, after_all}
 use Rattle.book.specs.Calls.{Wanted, lookups, ons, after_call, call-defs}
-use Rattle.book.specs.Lookups.{dry, planned}
+use Rattle.book.specs.Lookups.{dry}
+use Rattle.book.proofs.Lookups.{planned}
 use Rattle.planning.specs.Ask.{Ask, ask, any_late}
 use Rattle.planning.specs.Outcome.{CachingResult, wants, wanted, outcome, outcomes}
 use Rattle.planning.specs.Planning.{planned_by, planned_from, short, call_of, PlanAnswer, because, done, plan_answer, plan_on}

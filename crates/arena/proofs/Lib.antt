@@ -1,0 +1,19 @@
+-- Laws of the definitions in specs/, and what the proofs of functions use.
+pub mod Around
+pub mod Cases
+pub mod Cause9
+pub mod Edit
+pub mod Empty
+pub mod Image
+pub mod Keeps
+pub mod Length
+pub mod Octets
+pub mod Pieces
+pub mod PlaceLaws
+pub mod Reach
+pub mod Read
+pub mod Sequence
+pub mod Sizes
+pub mod Steps
+pub mod Stores
+pub mod Tests

@@ -1,0 +1,19 @@
+-- Laws of the definitions in specs/, and what the proofs of functions use.
+pub mod CallCases
+pub mod Cases
+pub mod Counts
+pub mod Demand3Laws
+pub mod DemandCases
+pub mod EachLaws
+pub mod Exchange
+pub mod Items
+pub mod Lookups
+pub mod ResidenceCases
+pub mod Residents
+pub mod Rows
+pub mod SoundLaws
+pub mod Stays
+pub mod Storable
+pub mod Tally
+pub mod Trace
+pub mod Ways
