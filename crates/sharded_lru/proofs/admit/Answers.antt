@@ -1,6 +1,5 @@
 -- `sharded_lru::admit` meets its contract: one law for each way out. Assumes nothing.
 use Rattle.sharded_lru.proofs.Admits.{bad-config, bounds, an-image, no-image}
-use borrow.Author.Rules.{rules}
 use Rattle.sharded_lru.proofs.admit.Goals as goal
 
 pub is_image-requires : goal.is_image-requires

@@ -2,7 +2,6 @@
 use native.Mathlib.Omega.{arith}
 use Rattle.sharded_lru.proofs.Parts.{shards-below, key-ends, key_below, key-shard, key-holds}
 use Rattle.sharded_lru.proofs.Backs.{lookup-back, told_back}
-use borrow.Author.Rules.{rules}
 use Rattle.sharded_lru.proofs.get.Goals as goal
 
 pub shard_start-start-requires : goal.shard_start-start-requires

@@ -2,7 +2,6 @@
 use native.Mathlib.Omega.{arith}
 use Rattle.sharded_lru.proofs.Parts.{shards-below, key-ends, key_below, key-shard, key-holds}
 use Rattle.sharded_lru.proofs.Backs.{store-back}
-use borrow.Author.Rules.{rules}
 use Rattle.sharded_lru.proofs.insert.Goals as goal
 
 pub shard_start-from-requires : goal.shard_start-from-requires

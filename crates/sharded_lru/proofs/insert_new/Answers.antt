@@ -2,7 +2,6 @@
 use native.Mathlib.Omega.{arith}
 use Rattle.sharded_lru.proofs.Parts.{shards-below, key-ends, key_below, key-shard, key-holds}
 use Rattle.sharded_lru.proofs.Backs.{store-back}
-use borrow.Author.Rules.{rules}
 use Rattle.sharded_lru.proofs.insert_new.Goals as goal
 
 pub shard_start-a-requires : goal.shard_start-a-requires

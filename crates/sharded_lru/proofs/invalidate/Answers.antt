@@ -4,7 +4,6 @@ use native.Mathlib.Omega.{arith}
 use Rattle.book.specs.Book.{plus, invalidate, effect_on, key_of}
 use Rattle.arena.specs.SetupOf.{setup_of}
 use Rattle.sharded_lru.proofs.Parts.{shards-below, key-ends, key_below, key-shard, key-holds, key_back}
-use borrow.Author.Rules.{rules}
 use Rattle.sharded_lru.proofs.invalidate.Goals as goal
 
 pub shard_start-at-requires : goal.shard_start-at-requires

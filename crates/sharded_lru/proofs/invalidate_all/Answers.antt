@@ -1,14 +1,10 @@
 -- `sharded_lru::invalidate_all` meets its contract. The loop's invariant: so many shards are empty, and n entries are dropped. Assumes nothing.
-use mathlib.Core.Path.{◌≡◌, refl, ap, ◌∙◌}
-use Prim.Native.Nat.{ℕ, ◌-◌, ◌≤◌}
+use mathlib.Core.Path.{refl, ap, ◌∙◌}
 use native.Mathlib.Omega.{arith}
-use lib.ListN.{length}
-use Rattle.book.specs.Book.{Row, row_entries, all_entries}
-use Rattle.sharded_lru.specs.Lent.{Lent}
+use Rattle.book.specs.Book.{row_entries}
 use Rattle.sharded_lru.specs.Laws.{ends-within}
 use Rattle.sharded_lru.proofs.Parts.{lent-holds}
-use Rattle.sharded_lru.proofs.Clears.{cleared, cleared-here, clear_first, clear_next, clear-bound, clear-last}
-use borrow.Author.Rules.{rules}
+use Rattle.sharded_lru.proofs.Clears.{cleared-here, clear_first, clear_next, clear-bound, clear-last}
 use Rattle.sharded_lru.proofs.invalidate_all.Goals as goal
 
 pub loop-i-init : goal.loop-i-init

@@ -3,7 +3,6 @@ use native.Mathlib.Omega.{arith}
 use Rattle.command_key.specs.Key.{key_bytes}
 use Rattle.sharded_lru.proofs.Parts.{shards-below, key-ends, key_below, key-shard, key-holds}
 use Rattle.sharded_lru.proofs.Backs.{peek-told, told_here}
-use borrow.Author.Rules.{rules}
 use Rattle.sharded_lru.proofs.peek.Goals as goal
 
 pub shard_start-start-requires : goal.shard_start-start-requires

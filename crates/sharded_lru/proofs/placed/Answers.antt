@@ -2,7 +2,6 @@
 use mathlib.Core.Path.{sym, ap, subst}
 use native.Mathlib.Omega.{arith}
 use Rattle.sharded_lru.specs.Placed.{placed_at, Within}
-use borrow.Author.Rules.{rules}
 use Rattle.sharded_lru.proofs.placed.Goals as goal
 
 pub overflow_add-result : goal.overflow_add-result

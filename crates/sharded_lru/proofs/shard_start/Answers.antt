@@ -3,7 +3,6 @@ use mathlib.Core.Path.{ap}
 use Prim.Native.Nat.{ℕ, ◌*◌}
 use native.Mathlib.Omega.{arith}
 use Rattle.sharded_lru.proofs.Parts.{start-below}
-use borrow.Author.Rules.{rules}
 use Rattle.sharded_lru.proofs.shard_start.Goals as goal
 
 pub overflow_mul-result : goal.overflow_mul-result
