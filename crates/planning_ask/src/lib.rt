@@ -1,5 +1,7 @@
 // What a command of a checked call record asks the cache for, before any lookup; after `get_cached_cmd` and what it calls (cache_manager.rs).
 // `planning/specs/Ask.antt` has the definitions; specs/Asked.antt says what the answers here stand for.
+#![tactic(auto)]
+
 ghost use Rattle.std.specs.Prelude.{◌≡◌, ◌+◌, ◌^◌, ◌<◌, length};
 ghost use Rattle.cursor.specs.At.{range_bytes, RangeIn, args_of, ArgsHere, command_of, commands_of, CommandsHere};
 ghost use Rattle.cursor.specs.Steps.{arg_next};
@@ -12,7 +14,7 @@ use config::{CacheMode, Settings};
 use cursor::{ArgAt, Args, Commands, Head, Range};
 
 // How far a command gets: it is ignored; it is stopped as not cacheable; or it has this name.
-#[derive(Drop)]
+#[derive(Clone, Copy)]
 pub enum Reached {
     Skipped,
     Stopped,
@@ -20,14 +22,14 @@ pub enum Reached {
 }
 
 // The next key of several, and a cursor behind it.
-#[derive(Drop)]
+#[derive(Clone, Copy)]
 pub struct KeyAt {
     pub key: Range,
     pub rest: Args,
 }
 
 // Several keys: the first `keys` simple arguments from `args` on, which stands behind the name; for JSON the last one's range as path.
-#[derive(Drop)]
+#[derive(Clone, Copy)]
 pub struct Several {
     pub json: bool,
     pub args: Args,
@@ -36,7 +38,7 @@ pub struct Several {
 }
 
 // What a command asks for: nothing, since it is ignored; nothing, since it is not cacheable; one key; several. With keys the client expiry.
-#[derive(Drop)]
+#[derive(Clone, Copy)]
 pub enum Asked {
     Nothing,
     Uncacheable,
@@ -45,7 +47,7 @@ pub enum Asked {
 }
 
 // The simple arguments before a cursor: how many, and the last one's range; an empty range where there is none.
-#[derive(Drop)]
+#[derive(Clone, Copy)]
 pub struct SimpleArgs {
     pub count: usize,
     pub last: Range,
