@@ -1,6 +1,8 @@
 // One step of resolving, over a plan's nodes and the list of replies: every pass of resolving is a loop over `step_at`, so that all of them say the
 // same. After caching/cmd.rs; its iterators are the cursors here. specs/Steps.antt says what a step means, crate resolving_walk what all steps do.
 // `list` is the list of replies: exactly one array. What is handed out is never copied: each element is a part of one of the two.
+#![tactic(auto)]
+
 ghost use Rattle.std.specs.Prelude.{◌≡◌, ◌+◌, ◌≤◌, min, length};
 ghost use Rattle.resp3_element.specs.Meaning.{Inside};
 ghost use Rattle.plan.specs.Head.{HeadIn};
@@ -13,7 +15,7 @@ use plan::NodeHead;
 use resp3_element::{Cursor, Elements, Integer};
 
 // Where the walk stands: at a node, at a reply, and at an element of the array that stands in the list from `from` up to `to`.
-#[derive(Drop)]
+#[derive(Clone, Copy)]
 pub struct Walk {
     pub at: usize,
     pub reply: Cursor,
@@ -23,7 +25,7 @@ pub struct Walk {
 }
 
 // A missing key: in the plan its key stands from `key` up to `command`, its command key from there up to `end`.
-#[derive(Drop)]
+#[derive(Clone, Copy)]
 pub struct Missed {
     pub key: usize,
     pub command: usize,
@@ -32,7 +34,7 @@ pub struct Missed {
 }
 
 // What comes next in the answer.
-#[derive(Drop)]
+#[derive(Clone, Copy)]
 pub enum Next {
     // These bytes of the plan.
     Plan(usize, usize),
@@ -48,14 +50,14 @@ pub enum Next {
     Wrong,
 }
 
-#[derive(Drop)]
+#[derive(Clone, Copy)]
 pub struct Step {
     pub next: Next,
     pub walk: Walk,
 }
 
 // After the reply that opt-in drops, where it drops one.
-#[derive(Drop)]
+#[derive(Clone, Copy)]
 enum Readied {
     Go(Walk),
     Stop,
