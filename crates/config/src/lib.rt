@@ -128,6 +128,7 @@ pub fn mode_of(mode: u64) -> CacheMode
 }
 
 // Cause 1's test of a size, a mode's number, a default TTL and an arena's length, and what a call works with where it passes.
+#[tactic(auto, unfolding(crate::specs::Config::checked, crate::specs::Config::refused, crate::specs::Config::settings_of))]
 pub fn check_config(size: u64, mode: u64, ttl: u64, arena: usize) -> CheckedConfig
     ensures { result ≡ checked size mode ttl arena }
 {
