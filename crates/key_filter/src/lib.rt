@@ -3,6 +3,8 @@
 // key and costs nothing: calls too short to pay for a walk over all items are lent that one.
 //
 // What a filter says of an arena is specs/Filter.antt. `fill` makes one true by one walk over all items; the other functions keep it true.
+#![tactic(auto)]
+
 ghost use Rattle.std.specs.Prelude.{◌≡◌, cond, true, ℕ, ◌<◌};
 ghost use Rattle.resp3.specs.Ends.{is_value};
 ghost use Rattle.book.specs.Book.{Item, Row, stored, no_space, lookup, store, on};
