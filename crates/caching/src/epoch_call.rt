@@ -5,7 +5,7 @@ ghost use Rattle.caching.specs.Epoch.{epoch_by};
 
 // What a new epoch returns: the number that it takes, and the next epoch number.
 #[repr(C)]
-#[derive(Drop)]
+#[derive(Clone, Copy)]
 pub struct RedisCacheEpoch {
     pub epoch: u64,
     pub next: u64,

@@ -8,7 +8,7 @@ pub mod resolve_call;
 pub mod served_call;
 pub mod value_end_call;
 
-ghost use Rattle.std.specs.Prelude.{◌≡◌, ℕ, ◌+◌, length};
+ghost use Rattle.std.specs.Prelude.{◌≡◌, ℕ, ◌+◌, ◌^◌, ◌<◌, length};
 ghost use Rattle.config.specs.Config.{checked};
 ghost use Rattle.statistics.specs.Counts.{reading};
 ghost use Rattle.book.specs.Book.{Counts};
@@ -26,7 +26,7 @@ use statistics::{CacheStatistics, Statistics};
 
 // What setup returns: the number of the cause that refuses it, or 0; the epoch taken; the next epoch number.
 #[repr(C)]
-#[derive(Drop)]
+#[derive(Clone, Copy)]
 pub struct RedisCacheSetup {
     pub cause: u64,
     pub epoch: u64,
@@ -35,21 +35,21 @@ pub struct RedisCacheSetup {
 
 // What a lookup returns: the number of the cause that refuses it, or 0; 1 for a hit, else 0.
 #[repr(C)]
-#[derive(Drop)]
+#[derive(Clone, Copy)]
 pub struct RedisCacheLookup {
     pub cause: u64,
     pub hit: u64,
 }
 
 // What an invalidation or a push comes to: the number of the cause that refuses it, or 0, and what it adds to the counts.
-#[derive(Drop)]
+#[derive(Clone, Copy)]
 pub struct Added {
     pub cause: u64,
     pub adds: Statistics,
 }
 
 // What a lookup comes to: what is returned, and what it adds to the counts.
-#[derive(Drop)]
+#[derive(Clone, Copy)]
 pub struct LookupAdded {
     pub answer: RedisCacheLookup,
     pub adds: Statistics,
@@ -107,6 +107,21 @@ fn none_yet() -> Statistics
         miss: 0,
         invalidate: 0,
     }
+}
+
+// A number of 64 bits is below 2^64.
+fn fits(n: u64)
+    ensures { n < 2 ^ 64 }
+{
+}
+
+// The counts in a record are numbers of 64 bits. Does nothing.
+fn counted(counts: Statistics)
+    ensures { Counted (counts_of counts) }
+{
+    fits(counts.hit);
+    fits(counts.miss);
+    fits(counts.invalidate);
 }
 
 // What a call that began with no counts comes to.
@@ -196,6 +211,7 @@ pub extern "C" fn redis_cache_invalidate(
         counts_of counts.new ≡ (invalidate_by size mode ttl key.now
         arena.old (counts_of counts.old) next).held.counts }
 {
+    counted(*counts);
     let r = invalidate_counting(arena, size, mode, ttl, key);
     statistics::increase(counts, r.adds);
     r.cause
@@ -219,8 +235,8 @@ fn lookup_counting<'a>(
         arena.old (counts_of was) next) value.new.now whole.new.now was result }
     ensures is_part { (lent : Counts) (next : ℕ) →
         PartAt (place_by size mode ttl clock epoch key.now command.now arena.old lent next)
-        value.new.ptr value.new.now arena.entry.ref_ptr (length arena.old) whole.new.now }
-    ensures is_arena { whole.new.ptr ≡ arena.entry.ref_ptr }
+        value.new.ref_ptr value.new.now arena.entry.ref_ptr (length arena.old) whole.new.now }
+    ensures is_arena { whole.new.ref_ptr ≡ arena.entry.ref_ptr }
 {
     let none = none_yet();
     let when = Now { clock, epoch };
@@ -262,8 +278,8 @@ pub extern "C" fn redis_cache_lookup<'a>(
         arena.old (counts_of counts.old) next).value }
     ensures is_part { (lent : Counts) (next : ℕ) →
         PartAt (place_by size mode ttl clock epoch key.now command.now arena.old lent next)
-        value.new.ptr value.new.now arena.entry.ref_ptr (length arena.old) whole.new.now }
-    ensures is_arena { whole.new.ptr ≡ arena.entry.ref_ptr }
+        value.new.ref_ptr value.new.now arena.entry.ref_ptr (length arena.old) whole.new.now }
+    ensures is_arena { whole.new.ref_ptr ≡ arena.entry.ref_ptr }
     ensures bytes { (next : ℕ) →
         whole.new.now ≡ (lookup_by size mode ttl clock epoch key.now command.now
         arena.old (counts_of counts.old) next).held.arena }
@@ -271,6 +287,7 @@ pub extern "C" fn redis_cache_lookup<'a>(
         counts_of counts.new ≡ (lookup_by size mode ttl clock epoch key.now command.now
         arena.old (counts_of counts.old) next).held.counts }
 {
+    counted(*counts);
     let r = lookup_counting(
         arena, size, mode, ttl, clock, epoch, key, command, value, whole,
     );

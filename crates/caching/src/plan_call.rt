@@ -6,7 +6,7 @@ ghost use Rattle.statistics.specs.OfBook.{counts_of};
 ghost use Rattle.cache_manager.specs.Pipeline.{returned_of};
 ghost use Rattle.caching.specs.Planned.{refused_return, plan_return, plan_by, PlanLeft};
 
-use crate::none_yet;
+use crate::{counted, none_yet};
 use cache_manager::Pipelined;
 use config::Now;
 use statistics::Statistics;
@@ -14,7 +14,7 @@ use statistics::Statistics;
 // What planning returns: the number of the cause that refuses it, or 0; cause 2's offset; how many bytes of the plan buffer and of the send buffer are
 // written; the response counts.
 #[repr(C)]
-#[derive(Drop)]
+#[derive(Clone, Copy)]
 pub struct RedisCachePlan {
     pub cause: u64,
     pub at: u64,
@@ -25,7 +25,7 @@ pub struct RedisCachePlan {
 }
 
 // What a planning comes to: what is returned, and what it adds to the counts.
-#[derive(Drop)]
+#[derive(Clone, Copy)]
 pub struct PlanAdded {
     pub answer: RedisCachePlan,
     pub adds: Statistics,
@@ -121,6 +121,7 @@ pub extern "C" fn redis_cache_plan(
         send.new ≡ (plan_by size mode ttl clock epoch bytes.now plan.old send.old
         arena.old (counts_of counts.old) next).send }
 {
+    counted(*counts);
     let r = plan_counting(arena, size, mode, ttl, clock, epoch, bytes, plan, send);
     statistics::increase(counts, r.adds);
     r.answer

@@ -5,7 +5,7 @@ ghost use Rattle.statistics.specs.OfBook.{counts_of};
 ghost use Rattle.caching.specs.Added.{AddedLeft};
 ghost use Rattle.caching.specs.Pushed.{push_by};
 
-use crate::{Added, comes_to, none_yet};
+use crate::{Added, comes_to, counted, none_yet};
 use statistics::Statistics;
 
 // Does what a push asks for, and tells what that adds to the counts.
@@ -33,6 +33,7 @@ pub extern "C" fn redis_cache_push(
         counts_of counts.new ≡ (push_by size mode ttl bytes.now
         arena.old (counts_of counts.old) next).held.counts }
 {
+    counted(*counts);
     let r = push_counting(arena, size, mode, ttl, bytes);
     statistics::increase(counts, r.adds);
     r.cause

@@ -9,7 +9,7 @@ use config::Now;
 // What resolving returns: the number of the cause that refuses it, or 0; how many bytes of the answer buffer are the result; how many stores were
 // refused as 11.
 #[repr(C)]
-#[derive(Drop)]
+#[derive(Clone, Copy)]
 pub struct RedisCacheResolve {
     pub cause: u64,
     pub answer: u64,

@@ -9,7 +9,7 @@ use served::ServedAnswer;
 // What it returns: the number of the cause that refuses it, or 0; how many bytes of the answer buffer are the result; 1 where some command needs
 // replies, else 0.
 #[repr(C)]
-#[derive(Drop)]
+#[derive(Clone, Copy)]
 pub struct RedisCacheServed {
     pub cause: u64,
     pub answer: u64,

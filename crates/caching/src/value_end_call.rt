@@ -8,7 +8,7 @@ use resp3_prefix::Begun;
 
 // The verdict: 0 complete, and its length; 1 more bytes are needed, and how many at least; 2 no value begins so.
 #[repr(C)]
-#[derive(Drop)]
+#[derive(Clone, Copy)]
 pub struct RedisCacheValueEnd {
     pub verdict: u64,
     pub bytes: u64,
