@@ -1,5 +1,7 @@
 // The passes of resolving that change nothing of the cache, each a loop over the same step: the dry pass finds cause 7 and whether the answers
 // have room (cause 8), the answer pass writes them. specs/Passes.antt says what each finds or writes. After `CacheablePipeline::resolve`.
+#![tactic(auto)]
+
 ghost use Rattle.std.specs.Prelude.{◌≡◌, ◌+◌, ◌≤◌, length};
 ghost use Rattle.buffer.specs.Part.{put};
 ghost use Rattle.resolving_step.specs.Steps.{element_bytes, next_bytes, is_wrong, NextIn};
@@ -39,7 +41,7 @@ fn next_size(next: Next) -> usize
 }
 
 // What the dry pass finds.
-#[derive(Drop)]
+#[derive(Clone, Copy)]
 pub enum Dry {
     Fits,
     Short,
