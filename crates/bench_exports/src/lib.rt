@@ -1,5 +1,7 @@
 // Leaves of the library, each behind C linkage, for the host's benchmark alone: no part of the cache that a host links against. Each
 // answers what the leaf below it answers.
+#![tactic(auto)]
+
 ghost use Rattle.std.specs.Prelude.{◌≡◌, ◌≤◌, length};
 ghost use Rattle.buffer.specs.Part.{put};
 ghost use Rattle.buffer.specs.Same.{same};
