@@ -1,5 +1,7 @@
 // The cache's single calls on a lent arena: setup, lookup, store and invalidate. Nothing is asked of the caller: what is wrong is refused by a cause's number.
 // After `CacheManager::new` and `ShardedLRU::get`, `insert` and `invalidate`. specs/Single.antt says what each returns and leaves.
+#![tactic(auto)]
+
 ghost use Rattle.std.specs.Prelude.{◌≡◌, ℕ, length};
 ghost use Rattle.config.specs.Config.{checked};
 ghost use Rattle.statistics.specs.OfBook.{counts_of};

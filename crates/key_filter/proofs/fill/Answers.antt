@@ -1,11 +1,9 @@
 -- `key_filter::fill` meets its contract: shard by shard, with the bits of those passed set. Assumes nothing.
-use mathlib.Core.Path.{◌≡◌, refl, ◌∙◌}
-use Prim.Native.Nat.{◌-◌}
+use mathlib.Core.Path.{refl, ◌∙◌}
 use native.Mathlib.Omega.{arith}
-use lib.ListN.{length}
 use Rattle.sharded_lru.specs.Laws.{ends-within}
 use Rattle.sharded_lru.proofs.Parts.{lent-holds}
-use Rattle.key_filter.proofs.Paths.{MarkedTo, marked_next, marked_all}
+use Rattle.key_filter.proofs.Paths.{marked_next, marked_all}
 use Rattle.key_filter.proofs.fill.Goals as goal
 
 pub loop-i-init : goal.loop-i-init

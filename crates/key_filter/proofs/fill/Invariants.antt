@@ -1,11 +1,8 @@
 -- `key_filter::fill` meets its contract: shard by shard, with the bits of those passed set. Assumes nothing.
-use mathlib.Core.Path.{◌≡◌, refl, ◌∙◌}
+use mathlib.Core.Path.{◌≡◌}
 use Prim.Native.Nat.{◌-◌}
-use native.Mathlib.Omega.{arith}
 use lib.ListN.{length}
-use Rattle.sharded_lru.specs.Laws.{ends-within}
-use Rattle.sharded_lru.proofs.Parts.{lent-holds}
-use Rattle.key_filter.proofs.Paths.{MarkedTo, marked_next, marked_all}
+use Rattle.key_filter.proofs.Paths.{MarkedTo}
 use Rattle.key_filter.proofs.fill.Given as goal
 
 abbrev pub invariant-loop-i : goal.invariant-loop-i

@@ -3,8 +3,6 @@ use mathlib.Core.Path.{sym, ◌∙◌}
 use Rattle.command_key.specs.Key.{key_bytes}
 use Rattle.key_filter.specs.Laws.{filters-absent}
 use Rattle.key_filter.specs.Absent.{absent-told, absent-lent}
-use borrow.Author.Rules.{rules}
-use borrow.Author.Tests.{not-true}
 use Rattle.key_filter.proofs.get.Goals as goal
 
 pub returns-then-not-may_hold : goal.returns-then-not-may_hold

@@ -6,7 +6,6 @@ use Rattle.book.specs.Book.{store}
 use Rattle.key_filter.specs.Filter.{bit_of, may_hold}
 use Rattle.key_filter.specs.Laws.{set_same, filters-grows, filters-after, filters-absent}
 use Rattle.key_filter.proofs.Paths.{grows-set}
-use borrow.Author.Rules.{rules}
 use Rattle.key_filter.proofs.insert.Goals as goal
 
 pub returns-then-may_hold : goal.returns-then-may_hold

@@ -1,7 +1,6 @@
 -- `key_filter::may_hold` meets its contract: one law for each return. Assumes nothing.
 use native.Mathlib.Omega.{arith}
 use Rattle.key_filter.proofs.Paths.{told-past, told-bit}
-use borrow.Author.Rules.{rules}
 use Rattle.key_filter.proofs.may_hold.Goals as goal
 
 pub returns-then-seen-at : goal.returns-then-seen-at

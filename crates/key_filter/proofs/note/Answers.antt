@@ -2,7 +2,6 @@
 use native.Mathlib.Omega.{arith}
 use Rattle.key_filter.proofs.Paths.{noted-bit, noted-past}
 use mathlib.Core.Path.{refl}
-use borrow.Author.Rules.{rules}
 use Rattle.key_filter.proofs.note.Goals as goal
 
 pub returns-then-at-seen : goal.returns-then-at-seen

@@ -10,7 +10,6 @@ use Rattle.book.specs.Book.{Item, Row}
 use Rattle.shard.specs.Holds.{Stands}
 use Rattle.shard.proofs.Fields.{fields}
 use Rattle.key_filter.specs.Filter.{bit_of, set_bit}
-use borrow.Author.Rules.{rules}
 use Rattle.key_filter.proofs.note_item.Goals as goal
 
 -- the key of the item is the part that is lent

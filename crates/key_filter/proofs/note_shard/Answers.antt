@@ -1,14 +1,11 @@
 -- `key_filter::note_shard` meets its contract: a walk over the items, with the bits of those passed set. Assumes nothing.
-use mathlib.Core.Path.{◌≡◌, refl, ◌∙◌}
-use Prim.Native.Nat.{◌-◌}
+use mathlib.Core.Path.{refl, ◌∙◌}
 use native.Mathlib.Omega.{arith}
-use lib.ListN.{length}
 use Rattle.book.specs.Book.{Row, row_bytes}
 use Rattle.shard.specs.Holds.{Holds}
 use Rattle.shard.proofs.Fields.{fields, used-read}
-use Rattle.shard.proofs.Walk.{items-count, Walk, begun, Here, here, passed, finished}
+use Rattle.shard.proofs.Walk.{items-count, begun, Here, here, passed, finished}
 use Rattle.shard.proofs.Items.{stands, there}
-use Rattle.key_filter.specs.Filter.{Grows}
 use Rattle.key_filter.proofs.Paths.{grows-set, Left, left-next}
 use Rattle.key_filter.proofs.note_shard.Goals.{In-loop-at}
 use Rattle.key_filter.proofs.note_shard.Goals as goal
