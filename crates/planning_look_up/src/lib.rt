@@ -1,4 +1,6 @@
 // A key looked up, in place, with its counts. specs/Looks.antt says what lookups make of the book, specs/Finds.antt what one of them finds.
+#![tactic(auto)]
+
 ghost use Rattle.std.specs.Prelude.{◌≡◌};
 ghost use Rattle.cursor.specs.At.{range_bytes, RangeIn};
 ghost use Rattle.command_key.specs.Key.{key_bytes, KeyIn};
@@ -13,7 +15,7 @@ use shard_lookup::Looked;
 use statistics::Statistics;
 
 // What a lookup found, and the counts after it.
-#[derive(Drop)]
+#[derive(Clone, Copy)]
 pub struct Found {
     pub looked: Looked,
     pub counts: Statistics,

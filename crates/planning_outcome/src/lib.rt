@@ -1,6 +1,8 @@
 // The outcome of one command of a checked call record, as the code holds it, after `get_cached_cmd` (cache_manager.rs); and a key of a several-key command,
 // peeked. `planning/specs/Outcome.antt` has the definitions; specs/Result.antt says what an outcome here stands for. It is made where the keys are looked up
 // (crate planning_nodes).
+#![tactic(auto)]
+
 ghost use Rattle.std.specs.Prelude.{ℕ, ◌≤◌, length};
 ghost use Rattle.config.specs.Limits.{max_bytes};
 ghost use Rattle.cursor.specs.At.{range_bytes, RangeIn};
@@ -18,13 +20,13 @@ use planning_ask::Several;
 use shard_lookup::Looked;
 
 // The outcome of a command; an ignored one has none.
-#[derive(Drop)]
+#[derive(Clone, Copy)]
 pub enum CachingResult {
     Item(PrepCacheItem),
     Ignored,
 }
 
-#[derive(Drop)]
+#[derive(Clone, Copy)]
 pub enum PrepCacheItem {
     Cached(Served),
     NotCached(CacheableCommand),
@@ -32,14 +34,14 @@ pub enum PrepCacheItem {
 }
 
 // What is served: the value in a range of the arena, or the values of several keys.
-#[derive(Drop)]
+#[derive(Clone, Copy)]
 pub enum Served {
     Value(Range),
     Values(Several),
 }
 
 // What is missing: one key, with its client expiry; or of several keys so many, with theirs.
-#[derive(Drop)]
+#[derive(Clone, Copy)]
 pub enum CacheableCommand {
     Single(Range, u64),
     Multiple(Several, usize, u64),
