@@ -2,6 +2,8 @@
 // that finds no space stops nothing: it is counted (rule S11 of docs/BEHAVIOUR.md). specs/Stores.antt says it on the book. After `CacheablePipeline::resolve`.
 //
 // The functions are lent a filter of keys that tells of the arena, and keep it true, so that a key that is not there is stored without a search.
+#![tactic(auto)]
+
 ghost use Rattle.std.specs.Prelude.{◌≤◌, length, [], ◌∷◌};
 ghost use Rattle.sharded_lru.specs.Lent.{Arena};
 ghost use Rattle.key_filter.specs.Filter.{Filters};
