@@ -1,6 +1,8 @@
 // Pushes, by which the server says what is no longer true: rules U1 to U4 of docs/BEHAVIOUR.md.
 // After the push handling of cache_manager.rs. specs/Push.antt says what a push returns and leaves; inner functions speak of whatever book the
 // arena and the counts are those of.
+#![tactic(auto)]
+
 ghost use Rattle.std.specs.Prelude.{◌≡◌, ℕ};
 ghost use Rattle.resp3.specs.declared.Kind.TheVariants.{BlobString};
 ghost use Rattle.resp3.specs.Value.{Value, Values, none, more, Means};
