@@ -1,6 +1,8 @@
 // Several keys of a command: what they take, each peeked once; and those that wait, written as they are sent, after the loops of `pack_command`
 // (caching/cmd.rs). They are read from the nodes of their places in the plan, so that no key is searched for again; or, where every key waits, from the record
 // (specs/Source.antt). What is written of a key is a parameter (specs/Pieces.antt).
+#![tactic(auto)]
+
 ghost use Rattle.std.specs.Prelude.{cond, [], ℕ, suc, ◌+◌, ◌≤◌, length};
 ghost use Rattle.config.specs.Limits.{max_bytes};
 ghost use Rattle.cursor.specs.At.{range_bytes, RangeIn};
@@ -20,7 +22,7 @@ use planning_ask::Several;
 use shard_lookup::Looked;
 
 // What several keys take: how many of them wait, the bytes of their places' nodes, the bytes of the keys that wait as blobs.
-#[derive(Drop)]
+#[derive(Clone, Copy)]
 pub struct Measured {
     pub missing: usize,
     pub nodes: usize,
@@ -93,21 +95,21 @@ pub fn measure(
 }
 
 // What is written of a key that waits: the key as a blob; or `PTTL` and the key.
-#[derive(Drop)]
+#[derive(Clone, Copy)]
 pub enum Piece {
     Key,
     Pttl,
 }
 
 // Where places are read from: the plan, from this place on; or the record, from this cursor on, where every key waits.
-#[derive(Drop)]
+#[derive(Clone, Copy)]
 pub enum Source {
     Nodes(usize),
     Keys(Args),
 }
 
 // A place: whether it is served, and its key if it is not; and where the others are read from.
-#[derive(Drop)]
+#[derive(Clone, Copy)]
 pub struct PlaceAt {
     pub served: bool,
     pub key: Range,

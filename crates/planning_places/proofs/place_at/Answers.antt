@@ -1,0 +1,17 @@
+-- `place_at` meets its contract, by where places are read from. Assumes nothing.
+use Rattle.planning_places.specs.Source as laws
+use Rattle.planning_places.proofs.place_at.Goals as goal
+
+pub node_at-node-requires : goal.node_at-node-requires
+node_at-node-requires c = laws.node_in _ _ _ c.in-Nodes.is c.requires
+
+pub next_key-next-requires : goal.next_key-next-requires
+next_key-next-requires c = laws.key_in _ _ _ c.in-Keys.is c.requires
+
+pub returns-in-Nodes : goal.returns-in-Nodes
+returns-in-Nodes c = λ n w. laws.node-step _ _ _ n _ c.in-Nodes.is c.node_at-node.ensures w
+
+pub returns-in-Keys : goal.returns-in-Keys
+returns-in-Keys c =
+    λ n w. laws.key_step _ _ _ n c.next_key-next.result c.in-Keys.is
+    c.next_key-next.ensures w
