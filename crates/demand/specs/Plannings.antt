@@ -31,8 +31,9 @@ use Rattle.planning.specs.Outcome.{CachingResult, wanted, outcomes}
 use Rattle.planning.specs.Plan.{nodes, plan_of}
 use Rattle.planning.specs.Planning.{Planned, planned_from, short, call_of}
 use Rattle.plan.specs.Decode.{decode_plan}
-use Rattle.plan_outcomes.specs.Law.{Read, planned-read}
-use Rattle.plan_outcomes.specs.Served.{dry-good}
+use Rattle.plan_outcomes.specs.Law.{Read}
+use Rattle.plan_outcomes.proofs.Law.{planned-read}
+use Rattle.plan_outcomes.proofs.Served.{dry-good}
 use Rattle.call_entry.specs.Entered.{no_cause}
 use Rattle.cache_manager.specs.Pipeline as plannings
 use Rattle.cache_manager.specs.Pipeline.{wrote}

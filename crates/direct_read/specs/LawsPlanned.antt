@@ -31,7 +31,7 @@ use Rattle.planning.specs.Sent.{sent, wrapped, Responses, sent_bytes}
 use Rattle.planning.specs.Plan.{plan_of}
 use Rattle.planning.specs.Planning.{Planned, planned_by, planned_from, short, PlanAnswer, because, done, plan_answer, plan_on}
 use Rattle.plan.specs.Decode.{decode_plan}
-use Rattle.plan_outcomes.specs.Served.{plan-read}
+use Rattle.plan_outcomes.proofs.Served.{plan-read}
 use Rattle.call_entry.specs.Laws.{each-entry}
 use Rattle.cache_manager.specs.Pipeline.{refused_as, wrote, Left, refusal, pipelined, judged, admitted_to, plan_call}
 

@@ -19,7 +19,7 @@ use Rattle.planning.specs.Sent.{Packed, sends, sent}
 use Rattle.planning.specs.Plan as nodes
 use Rattle.planning.specs.Plan.{nodes_of, plan_of}
 use Rattle.plan_outcomes.specs.Outcomes.{command_given, plan_given}
-use Rattle.plan_outcomes.specs.Law.{plan-given}
+use Rattle.plan_outcomes.proofs.Law.{plan-given}
 use Rattle.resolving_walk.specs.Commands.{plan_read}
 use Rattle.resolving.specs.Plan.{Plan}
 use Rattle.resolving.specs.Convert.{replies_of}

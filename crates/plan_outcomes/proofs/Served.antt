@@ -28,7 +28,8 @@ use Rattle.planning.specs.Ask.{ask, any_late}
 use Rattle.planning.specs.Outcome.{wanted, outcomes}
 use Rattle.planning.specs.Planning.{Planned, because, done, planned_from, short, plan_answer, plan_on}
 use Rattle.planning.proofs.Kept.{GoodAnswer}
-use Rattle.plan_outcomes.specs.Law.{Read, planned-read}
+use Rattle.plan_outcomes.specs.Law.{Read}
+use Rattle.plan_outcomes.proofs.Law.{planned-read}
 
 -- an entry's value is a value
 value-good : (k c : Bytes) (ens : List Entry) (v : Bytes) → StorableEntries (may_store is_value) k ens → value_for c ens ≡ some v → IsValue v
