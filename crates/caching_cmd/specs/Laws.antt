@@ -19,7 +19,7 @@ use Rattle.format.specs.Lists.{enc_all}
 use Rattle.resp3.specs.Value.{Value, Values, none, more, encode, Means, null_bytes}
 use Rattle.resp3.specs.Ends.{is_value}
 use Rattle.resp3.specs.Decode as resp
-use Rattle.resp3.specs.Law.{value-law, value-means}
+use Rattle.resp3.proofs.Law.{value-law, value-means}
 use Rattle.resp3_element.specs.declared.Cursor.{Cursor}
 use Rattle.resp3_element.specs.declared.Elements.{Elements}
 use Rattle.resp3_element.specs.declared.Elements.TheVariants.{Of, No as NoElements}

@@ -9,7 +9,7 @@ use Rattle.config.specs.Limits.{max_bytes}
 use Rattle.config.specs.declared.CacheMode.{CacheMode}
 use Rattle.resp3.specs.Ends.{is_value}
 use Rattle.resp3.specs.Decode as resp
-use Rattle.resp3.specs.Law.{value-law, decode-law}
+use Rattle.resp3.proofs.Law.{value-law, decode-law}
 use Rattle.book.specs.Calls.{Storing, refused, stores, ons, events_of, call-defs}
 use Rattle.book.proofs.Storable.{StorableEvents}
 use Rattle.arena.specs.Decode.{may_store, decode}

@@ -5,7 +5,7 @@ use Rattle.buffer.specs.Same.{Bytes}
 use Rattle.decimal.specs.Digits.{digits}
 use Rattle.resp3.specs.Value.{blob_string, count, deepest, Valids, counted, enc, encs, encode, Means}
 use Rattle.resp3.specs.Decode.{decode}
-use Rattle.resp3.specs.Law.{decode-law}
+use Rattle.resp3.proofs.Law.{decode-law}
 use Rattle.cmd.specs.Pack.{blobs, command_value, packed, head, blob, blob_bytes}
 
 -- ---- it is read back

@@ -15,7 +15,7 @@ use Rattle.config.specs.Causes.{bad_config, bad_arena}
 use Rattle.config.specs.Config.{refused, settings_of}
 use Rattle.format.specs.Lists.{All}
 use Rattle.resp3.specs.Ends.{is_value}
-use Rattle.resp3.specs.Law.{value-law}
+use Rattle.resp3.proofs.Law.{value-law}
 use Rattle.book.specs.Book as book
 use Rattle.book.specs.Book.{Setup, Row, Item, Entry, Keyed, plus, fresh, on}
 use Rattle.book.specs.Calls.{Call, single, after_calls}

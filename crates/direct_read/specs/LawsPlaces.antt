@@ -11,7 +11,7 @@ use Rattle.buffer.specs.Same.{Bytes}
 use Rattle.buffer.specs.Ascii.{ascii}
 use Rattle.resp3.specs.Value.{Value, Values, none, more}
 use Rattle.resp3.specs.Decode.{decode}
-use Rattle.resp3.specs.Law.{decode-law}
+use Rattle.resp3.proofs.Law.{decode-law}
 use Rattle.call_record.specs.Record.{Command}
 use Rattle.book.specs.Book as book
 use Rattle.book.specs.Book.{Answer}

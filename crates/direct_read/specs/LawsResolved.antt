@@ -10,7 +10,7 @@ use Rattle.config.specs.Config.{mode_of, checked}
 use Rattle.config.specs.declared.Settings.{Settings}
 use Rattle.resp3.specs.Ends.{is_value}
 use Rattle.resp3.specs.Decode as resp
-use Rattle.resp3.specs.Law.{decode-law}
+use Rattle.resp3.proofs.Law.{decode-law}
 use Rattle.resp3.specs.Value.{Value, Values, Means, encode}
 use Rattle.book.specs.Book.{Row}
 use Rattle.book.specs.Calls.{Storing}

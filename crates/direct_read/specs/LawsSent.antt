@@ -5,7 +5,7 @@ use Rattle.std.proofs.lemmas.List.{append_cancel_left, append_cancel_right}
 use Rattle.buffer.specs.Same.{Bytes}
 use Rattle.resp3.specs.Value.{Value, Values, none, more, Valid, Valids, enc, encs, encode}
 use Rattle.resp3.specs.Rows.{enc-is, longer}
-use Rattle.resp3.specs.Law.{unique}
+use Rattle.resp3.proofs.Law.{unique}
 use Rattle.cmd.specs.Pack.{blobs, exec_texts}
 use Rattle.cmd.specs.PackLaws.{blobs-valid}
 use Rattle.planning.specs.Sent.{Packed, wrapped, command_values, sent_bytes}

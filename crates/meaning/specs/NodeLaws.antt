@@ -9,7 +9,7 @@ use Rattle.buffer.specs.Same.{Bytes}
 use Rattle.format.specs.Lists.{All}
 use Rattle.resp3.specs.Value.{Values, more, count, Means, IsValue}
 use Rattle.resp3.specs.Decode as resp
-use Rattle.resp3.specs.Law as values
+use Rattle.resp3.proofs.Law as values
 use Rattle.book.specs.Calls.{missing_until}
 use Rattle.planning.specs.Plan as nodes
 use Rattle.planning.specs.Plan.{Node, hand_on, served_value, all_served, missing_key, several, waiting_place, end_of_several}

@@ -7,7 +7,7 @@ use Rattle.buffer.specs.Same.{Bytes}
 use Rattle.config.specs.Config.{refused, settings_of}
 use Rattle.config.specs.declared.Settings.{Settings}
 use Rattle.resp3.specs.Value.{Value, Means}
-use Rattle.resp3.specs.Law as values
+use Rattle.resp3.proofs.Law as values
 use Rattle.resp3_prefix.specs.Begun.{first_value}
 use Rattle.resp3_prefix.specs.Law.{complete-law, least-law, more-law, never-law}
 use Rattle.resp3_prefix.specs.declared.Begun.{Begun}

@@ -13,7 +13,7 @@ use Rattle.config.specs.declared.CheckedConfig.TheVariants.{Fine}
 use Rattle.format.specs.Lists.{All}
 use Rattle.siphash.specs.Sip.{sip_hash13}
 use Rattle.resp3.specs.Ends.{is_value}
-use Rattle.resp3.specs.Law as values
+use Rattle.resp3.proofs.Law as values
 use Rattle.call_record.specs.Record.{enc_record}
 use Rattle.call_record.specs.Check.{check-fine, check-offset}
 use Rattle.cursor.specs.Laws.{decoded}

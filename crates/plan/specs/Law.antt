@@ -12,7 +12,7 @@ use Rattle.buffer.specs.Lists.{drop_past}
 use Rattle.config.specs.Limits.{max_commands}
 use Rattle.format.specs.Lists.{enc_all, All}
 use Rattle.resp3.specs.Value.{encode, null_bytes}
-use Rattle.resp3.specs.Law.{value-law}
+use Rattle.resp3.proofs.Law.{value-law}
 use Rattle.arena.proofs.Tests.{Trues, every-yes, yes-every}
 use Rattle.planning.specs.Plan.{Node, hand_on, served_value, all_served, missing_key, several, waiting_place, end_of_several, enc_node, Plan, enc_plan, plan_head_size}
 use Rattle.planning.specs.Plan.{node_head_size}

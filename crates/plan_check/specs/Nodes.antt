@@ -12,7 +12,7 @@ use Rattle.buffer.specs.Part.{part}
 use Rattle.buffer.specs.PartLaws.{length_part, drop-part}
 use Rattle.config.specs.Limits.{max_key, max_command_key, max_arguments}
 use Rattle.resp3.specs.Ends.{is_value}
-use Rattle.resp3.specs.Law.{value-law}
+use Rattle.resp3.proofs.Law.{value-law}
 use Rattle.planning.specs.Plan.{Node, hand_on, served_value, all_served, missing_key, several, waiting_place, end_of_several, node_bytes, enc_node}
 use Rattle.planning.specs.Plan.{hand_on_kind, served_kind, all_served_kind, missing_kind, several_kind, waiting_kind, end_kind}
 use Rattle.planning.specs.Rules.{GoodNode}

@@ -12,7 +12,7 @@ use Rattle.config.specs.declared.Settings.{Settings}
 use Rattle.format.specs.Lists.{All}
 use Rattle.resp3.specs.Value.{IsValue}
 use Rattle.resp3.specs.Ends.{is_value}
-use Rattle.resp3.specs.Law.{value-law}
+use Rattle.resp3.proofs.Law.{value-law}
 use Rattle.call_record.specs.Record.{Record, enc_record, ValidRecord, transaction}
 use Rattle.book.specs.Book.{Setup, Entry, Item, Row, Book, Answer, find, without, value_for, current, serve, lookup_item, key_of, effect_on, effect, answer_to}
 use Rattle.book.specs.Calls.{Wanted}

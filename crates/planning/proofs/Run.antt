@@ -6,7 +6,7 @@ use Rattle.config.specs.declared.Settings.{Settings}
 use Rattle.resp3.specs.Value.{count, deepest, Valids}
 use Rattle.resp3.specs.Ends.{items_end}
 use Rattle.resp3.specs.Decode.{values_of}
-use Rattle.resp3.specs.Complete.{Got, items-law}
+use Rattle.resp3.proofs.Complete.{Got, items-law}
 use Rattle.call_record.specs.Record.{Record, transaction}
 use Rattle.planning.specs.Outcome.{CachingResult}
 use Rattle.cmd.specs.Pack.{exec_texts}

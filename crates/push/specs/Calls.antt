@@ -7,7 +7,7 @@ use Rattle.config.specs.declared.Settings.{Settings}
 use Rattle.statistics.specs.declared.Statistics.{Statistics}
 use Rattle.resp3.specs.Ends.{is_value}
 use Rattle.resp3.specs.Decode.{decode}
-use Rattle.resp3.specs.Law.{value-means}
+use Rattle.resp3.proofs.Law.{value-means}
 use Rattle.book.specs.Book.{Setup, Row, Counts}
 use Rattle.book.specs.Calls.{after_call}
 use Rattle.arena.specs.Layout.{encode}

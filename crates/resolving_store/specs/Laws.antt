@@ -11,7 +11,7 @@ use Rattle.config.specs.declared.CacheMode.{CacheMode}
 use Rattle.config.specs.declared.Settings.{Settings}
 use Rattle.resp3.specs.Value.{Values}
 use Rattle.resp3.specs.Ends.{is_value}
-use Rattle.resp3.specs.Law.{value-law}
+use Rattle.resp3.proofs.Law.{value-law}
 use Rattle.book.specs.Book.{Setup, Row, Book, Answer, hit, miss, stored, no_space, invalidated, number, store, on, effect, plus, after, answer_to}
 use Rattle.book.specs.Book.{after_all, answers}
 use Rattle.book.specs.Calls.{Storing, stores, ons, refusals}

@@ -5,7 +5,7 @@ use Rattle.buffer.specs.Same.{Bytes}
 use Rattle.format.specs.Lists.{All}
 use Rattle.resp3.specs.Value.{count, Valid, encode, IsValue}
 use Rattle.resp3.specs.Decode.{decode}
-use Rattle.resp3.specs.Law.{decode-law}
+use Rattle.resp3.proofs.Law.{decode-law}
 use Rattle.book.specs.Calls.{Wanted, missing_until}
 use Rattle.planning.specs.Plan.{Node, hand_on, served_value, all_served, missing_key, several, waiting_place, end_of_several}
 use Rattle.planning.specs.Plan as nodes

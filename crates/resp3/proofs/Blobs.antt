@@ -18,7 +18,7 @@ use Rattle.decimal.specs.declared.Num.TheVariants.{Val}
 use Rattle.resp3.specs.Value.{Value, blob_string, enc, encode}
 use Rattle.resp3.specs.Ends.{is_value}
 use Rattle.resp3.specs.Rows.{enc-is}
-use Rattle.resp3.specs.Law.{value-law}
+use Rattle.resp3.proofs.Law.{value-law}
 
 -- what stands from `from` on: the blob string of the n bytes at e, and what follows it
 blob-stands : (s : Bytes) (lim from n e : ℕ) → from < length s → get_or s from 0 ≡ 36 → num_def lim s (from + 1) ≡ Val n e → e + n ≤ length s

@@ -1,1 +1,3 @@
+pub mod Complete
+pub mod Law
 pub mod Blobs

@@ -7,10 +7,8 @@ pub mod Paths
 pub mod KindLaws
 pub mod Rows
 pub mod Decode
-pub mod Complete
 pub mod Says
 pub mod Sound
-pub mod Law
 pub mod Examples
 pub mod ServerExamples
 pub mod Cases

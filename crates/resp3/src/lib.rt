@@ -1,5 +1,5 @@
 // RESP3 values in bytes: where a value ends, and whether bytes are exactly one value.
-// specs/Value.antt says what a value is and how it is written; specs/Law.antt that this reader and that writing agree.
+// specs/Value.antt says what a value is and how it is written; proofs/Law.antt that this reader and that writing agree.
 #![tactic(auto)]
 
 ghost use Rattle.std.specs.Prelude.{◌≡◌, true, ◌+◌, ◌-◌, ◌≤◌, length, get_or};

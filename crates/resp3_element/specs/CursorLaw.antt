@@ -13,7 +13,7 @@ use Rattle.resp3.specs.Ends.{length_at}
 use Rattle.resp3.specs.Nulls.{word-length}
 use Rattle.resp3.specs.Rows.{enc-is, longer, room}
 use Rattle.resp3.specs.Reads.{length-reads}
-use Rattle.resp3.specs.Complete.{read-law}
+use Rattle.resp3.proofs.Complete.{read-law}
 use Rattle.resp3_element.specs.declared.Cursor.{Cursor}
 use Rattle.resp3_element.specs.declared.Elements.TheVariants.{No as NoList}
 use Rattle.resp3_element.specs.Meaning.{value_kind, array_of, push_of, Stands, Holds}

@@ -11,7 +11,7 @@ use Rattle.resp3.specs.Value.{underscore, blob_null, array_null, Value, Values, 
 use Rattle.resp3.specs.Value.{blob_error, verbatim_string, big_number, array, map, set, attribute, push, none, more, count, deepest, depth, Valid, Valids}
 use Rattle.resp3.specs.Value.{crlf, counted, integer, enc, encs}
 use Rattle.resp3.specs.Rows.{longer, room, room_pairs}
-use Rattle.resp3.specs.Complete.{read-law}
+use Rattle.resp3.proofs.Complete.{read-law}
 use Rattle.resp3_prefix.specs.declared.Begun.TheVariants.{Ends, Lacks}
 use Rattle.resp3_prefix.specs.declared.Count.{Count}
 use Rattle.resp3_prefix.specs.Begun.{lacking_row, lacking_below, count_begun, alone_of, row_of, head_then, value_begun, row_begun}

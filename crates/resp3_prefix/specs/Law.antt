@@ -12,7 +12,7 @@ use Rattle.resp3.specs.declared.End.TheVariants.{At}
 use Rattle.resp3.specs.Value.{encode}
 use Rattle.resp3.specs.Rows.{enc-is}
 use Rattle.resp3.specs.Ends.{value_end}
-use Rattle.resp3.specs.Complete.{read-law}
+use Rattle.resp3.proofs.Complete.{read-law}
 use Rattle.resp3.specs.Sound.{end-sound}
 use Rattle.resp3_prefix.specs.declared.Begun.{Begun}
 use Rattle.resp3_prefix.specs.declared.Begun.TheVariants.{Ends, Lacks, Never}

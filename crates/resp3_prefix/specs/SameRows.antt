@@ -21,7 +21,7 @@ use Rattle.resp3.specs.Ends as ends
 use Rattle.resp3.specs.Paths as paths
 use Rattle.resp3.specs.Says.{not-bad, at_same, num-then}
 use Rattle.resp3.specs.Sound.{end-sound}
-use Rattle.resp3.specs.Complete.{read-law}
+use Rattle.resp3.proofs.Complete.{read-law}
 use Rattle.resp3_prefix.specs.declared.Begun.{Begun}
 use Rattle.resp3_prefix.specs.declared.Begun.TheVariants.{Ends, Lacks, Never}
 use Rattle.resp3_prefix.specs.declared.Count.{Count}

@@ -16,7 +16,7 @@ use Rattle.decimal.specs.Digits.{digits}
 use Rattle.resp3.specs.Value.{Values, none, encode}
 use Rattle.resp3.specs.Ends.{is_value}
 use Rattle.resp3.specs.Decode as resp
-use Rattle.resp3.specs.Law.{value-law, decode-law}
+use Rattle.resp3.proofs.Law.{value-law, decode-law}
 use Rattle.book.specs.Book.{Setup, Row, after_all, answers}
 use Rattle.book.specs.Calls.{refusals, ons, stores, call-defs}
 use Rattle.arena.specs.Decode.{decode}

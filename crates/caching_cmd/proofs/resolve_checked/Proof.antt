@@ -1,5 +1,5 @@
 -- `caching_cmd::resolve_checked` meets its contract. Assumes nothing.
-use Rattle.resp3.specs.Law.{value-means}
+use Rattle.resp3.proofs.Law.{value-means}
 use Rattle.caching_cmd.specs.Laws as law
 use Rattle.caching_cmd.specs.Listed as listed
 use Rattle.caching_cmd.specs.Heads as heads

@@ -2,7 +2,7 @@
 use mathlib.Core.Path.{refl, sym, ◌∙◌}
 use Rattle.sharded_lru.specs.Admit.{admits, enter}
 use Rattle.single_calls.specs.AnswerLaws.{not-admitted-cause}
-use Rattle.resp3.specs.Law.{value-means}
+use Rattle.resp3.proofs.Law.{value-means}
 use Rattle.push.specs.Calls.{not-admitted, is-admitted, bad-bytes, good-bytes, one_value, push-refused, push-left}
 use Rattle.push.proofs.handle_push.Goals as goal
 

@@ -1,6 +1,6 @@
 -- `resp3_vectors::show` meets its contract: what `is_value` accepts is a value. Assumes nothing.
 use mathlib.Core.Path.{sym, ◌∙◌}
-use Rattle.resp3.specs.Law.{value-law}
+use Rattle.resp3.proofs.Law.{value-law}
 use Rattle.resp3_vectors.proofs.show.Goals as goal
 
 pub describe-requires : goal.describe-requires

@@ -13,7 +13,7 @@ use Rattle.resp3.specs.Ends.{value_end, ends_at, is_value}
 use Rattle.resp3.specs.Paths as paths
 use Rattle.resp3.specs.Rows.{enc-is}
 use Rattle.resp3.specs.Decode.{value_of, decode}
-use Rattle.resp3.specs.Complete.{Got, read-law}
+use Rattle.resp3.proofs.Complete.{Got, read-law}
 use Rattle.resp3.specs.Sound.{end-sound}
 
 -- ---- what is accepted is a value
