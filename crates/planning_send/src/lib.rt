@@ -2,6 +2,8 @@
 // cacheable; otherwise `CLIENT CACHING YES` in opt-in mode, and then `PTTL` and the command, or the name with the missing keys and the path and a `PTTL` for
 // each. specs/Sends.antt says which bytes those are. Keys of several that wait are read from their nodes in the plan, or from the record (crate
 // planning_places).
+#![tactic(auto)]
+
 ghost use Rattle.std.specs.Prelude.{◌≡◌, ◌+◌, ◌≤◌, ◌<◌, length};
 ghost use Rattle.config.specs.Limits.{max_bytes};
 ghost use Rattle.cursor.specs.At.{RangeIn, ArgsHere};
@@ -30,7 +32,7 @@ fn write_opt_in(dst: &mut [u8], to: usize, mode: CacheMode) -> usize
 }
 
 // One of the two commands that are sent for one missing key: `PTTL` and the key, or the command itself.
-#[derive(Drop)]
+#[derive(Clone, Copy)]
 enum Half {
     Pttl,
     Own,
