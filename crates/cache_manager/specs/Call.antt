@@ -1,5 +1,5 @@
 -- The book's call that a planning is, by its arguments alone: what demand 3's sequences take it as. That it leaves what the book's call leaves is shown there
--- (demand/specs/PlanBridge.antt). Assumes nothing: these are definitions.
+-- (demand/proofs/PlanBridge.antt). Assumes nothing: these are definitions.
 use Rattle.std.specs.Prelude.{cond, ℕ, ltb, length}
 use Rattle.buffer.specs.Same.{Bytes}
 use Rattle.config.specs.Limits.{max_bytes}

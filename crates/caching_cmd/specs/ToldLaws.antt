@@ -1,5 +1,5 @@
 -- What a resolving tells the book may be stored: so demand 3's sequences may have resolvings in them. That it leaves what the book's call leaves is shown
--- there (demand/specs/ResolveBridge.antt). Assumes nothing.
+-- there (demand/proofs/ResolveBridge.antt). Assumes nothing.
 use Rattle.std.specs.Prelude.{◌≡◌, refl, Bool, true, List, [], ◌∷◌, ℕ, ◌≤◌, ◌<◌, ◌^◌, leb, length}
 use Rattle.std.proofs.Common.{subst, le-leb}
 use Rattle.std.proofs.Math.Option.{Option, none, some}

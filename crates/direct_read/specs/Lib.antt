@@ -2,16 +2,3 @@ pub mod Server
 pub mod Direct
 pub mod Get
 pub mod Alike
-pub mod Cases
-pub mod Needed
-pub mod NullCases
-pub mod LawsSent
-pub mod LawsPlanned
-pub mod LawsResolved
-pub mod LawsAnswer
-pub mod LawsRun
-pub mod LawsAsked
-pub mod LawsPlaces
-pub mod LawsMget
-pub mod Theorem
-pub mod TheoremGet

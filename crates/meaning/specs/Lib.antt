@@ -3,11 +3,3 @@ pub mod Written
 pub mod Nodes
 pub mod Outcomes
 pub mod Meaning
-pub mod Elements
-pub mod NullBytes
-pub mod NodeLaws
-pub mod WrittenLaws
-pub mod OutcomeLaws
-pub mod Readings
-pub mod Theorems
-pub mod Only
