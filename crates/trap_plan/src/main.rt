@@ -1,18 +1,23 @@
 // Takes a call record from standard input and writes what planning it sends, on a cache that holds nothing. It writes nothing where planning refuses,
 // where the record is longer than 65,536 bytes or what is to be sent is: one byte more is read than a record may have, and no more room is lent than that.
 // What it writes is crate trap_send's.
-use libc::{STDIN_FILENO, STDOUT_FILENO};
+#![tactic(auto)]
+
+use std::io::{self, Read, Write};
 use trap_send::Sent;
 
-fn main() {
-    let mut input = [0u8; 65537];
-    let n = io::read_full(STDIN_FILENO, &mut input);
-    let mut out = io::large_buffer();
-    let sent = trap_send::send_bytes(&input[..n], &mut out);
-    match sent {
-        Sent::Front(m) => {
-            io::write_all(STDOUT_FILENO, &out[..m]);
-        }
-        Sent::Nothing => {}
+// The most bytes that are read.
+const MAX_INPUT: u64 = 65_537;
+
+// The most bytes that are written.
+const MAX_OUTPUT: usize = 65_536;
+
+fn main(rt: HostRuntime) -> io::Result<()> {
+    let mut input = Vec::new(rt.alloc());
+    rt.reader().take(MAX_INPUT).read_to_end(&mut input)?;
+    let mut out = [0; MAX_OUTPUT];
+    match trap_send::send_bytes(input.as_slice(), &mut out) {
+        Sent::Front(n) => io::writer(&rt).write_all(&out[..n]),
+        Sent::Nothing => Ok(()),
     }
 }
