@@ -1,5 +1,7 @@
 // Around what is sent for each command; after `write_pipeline` (pipeline.rs): how long it is and how many commands it is, and `MULTI` and `EXEC` around a
 // transaction. What is sent for one command is crate planning_send; specs/Lengths.antt, specs/Counts.antt and specs/Wrapped.antt have the laws.
+#![tactic(auto)]
+
 ghost use Rattle.std.specs.Prelude.{◌≡◌, List, ◌+◌, ◌^◌, ◌≤◌, ◌<◌, length};
 ghost use Rattle.buffer.specs.Same.{Bytes};
 ghost use Rattle.config.specs.Limits.{max_bytes, max_arguments};

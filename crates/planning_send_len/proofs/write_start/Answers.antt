@@ -1,0 +1,17 @@
+-- `write_start` meets its contract. Assumes nothing.
+use Rattle.plan_write.specs.Wrote.{wrote-is, wrote_none, room-is}
+use Rattle.planning_send_len.specs.Wrapped as wrap
+use Rattle.planning_send_len.proofs.write_start.Goals as goal
+
+pub write_multi-requires : goal.write_multi-requires
+write_multi-requires c =
+    room-is _ _ _ _ (wrap.start-yes c.args.transaction c.if-transaction.true) c.requires
+
+pub returns-then-transaction : goal.returns-then-transaction
+returns-then-transaction c =
+    wrote-is _ _ _ _ _ _
+    (wrap.start-yes c.args.transaction c.if-transaction.true)
+    c.write_multi.ensures
+
+pub returns-else-transaction : goal.returns-else-transaction
+returns-else-transaction c = wrote_none _ _ _ (wrap.start-no c.args.transaction c.if-transaction.false)
