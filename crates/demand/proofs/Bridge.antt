@@ -28,7 +28,7 @@ use Rattle.single_calls.specs.Single as one
 use Rattle.single_calls.specs.Single.{Return, single_call}
 use Rattle.call_entry.specs.Entered.{holding}
 use Rattle.single_calls.specs.Place.{served_at, lookup_place}
-use Rattle.single_calls.specs.PlaceLaws.{lookup-place, place-alike}
+use Rattle.single_calls.proofs.PlaceLaws.{lookup-place, place-alike}
 use Rattle.single_calls.specs.AsCall.{call_of, outcome_number, outcome_value, returned}
 use Rattle.single_calls.specs.AsCallLaws.{as_call}
 use Rattle.caching.specs.Exported.{flag_of, bytes_of}

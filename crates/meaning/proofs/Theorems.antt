@@ -36,7 +36,7 @@ use Rattle.plan.specs.Law as plans
 use Rattle.single_calls.specs.Single as singles
 use Rattle.single_calls.specs.Single.{Return, refused_as, overlong, wrong_bytes, called_on, single_call}
 use Rattle.single_calls.specs.Place.{served_at, place_left, place_under, lookup_place}
-use Rattle.single_calls.specs.PlaceLaws.{lookup-place}
+use Rattle.single_calls.proofs.PlaceLaws.{lookup-place}
 use Rattle.single_calls.specs.AsCall.{call_of, outcome_value}
 use Rattle.push.specs.Push as pushes
 use Rattle.cache_manager.specs.Pipeline as plannings

@@ -6,6 +6,5 @@ pub mod AnswerLaws
 pub mod SingleCases
 pub mod AsCall
 pub mod AsCallLaws
-pub mod PlaceLaws
 pub mod Laws
 pub mod Cases

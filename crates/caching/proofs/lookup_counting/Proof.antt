@@ -2,7 +2,7 @@
 use Rattle.std.proofs.Common.{refl, ◌∙◌, rules}
 use Rattle.book.specs.Book.{Counts, lookup}
 use Rattle.single_calls.specs.Single.{single_call}
-use Rattle.single_calls.specs.PlaceLaws.{place-alike}
+use Rattle.single_calls.proofs.PlaceLaws.{place-alike}
 use Rattle.statistics.specs.OfBook.{counts_of}
 use Rattle.caching.specs.Exported.{start_of}
 use Rattle.caching.proofs.Parts.{start-of, part-there, part_at}
