@@ -27,7 +27,6 @@ use Rattle.resolving_store.specs.Stores.{Stores, walked_stores}
 use Rattle.resolving_store.specs.Laws.{stores-none}
 use Rattle.caching_cmd.specs.declared.ResolveAnswer.TheVariants.{Answered, Refused}
 use Rattle.caching_cmd.specs.Call.{fits, told_to, refused_of, answer_of, buffer_after}
-use Rattle.caching_cmd.specs.Cases.{refused-in-75}
 use Rattle.caching_cmd.specs.Parts.{Judged}
 
 -- ---- the room

@@ -6,7 +6,6 @@ use Rattle.config.specs.declared.CacheMode.{CacheMode}
 use Rattle.resp3.specs.Ends.{is_value}
 use Rattle.resp3.specs.Decode as resp
 use Rattle.book.specs.Calls.{Call, refused}
-use Rattle.arena.specs.Decode.{decode}
 use Rattle.planning.specs.Plan as nodes
 use Rattle.resolving_walk.specs.Commands.{plan_read}
 use Rattle.resolving.specs.Resolve.{resolve}

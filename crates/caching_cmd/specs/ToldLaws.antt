@@ -12,7 +12,7 @@ use Rattle.resp3.specs.Decode as resp
 use Rattle.resp3.proofs.Law.{value-law, decode-law}
 use Rattle.book.specs.Calls.{Storing, refused, stores, ons, events_of, call-defs}
 use Rattle.book.proofs.Storable.{StorableEvents}
-use Rattle.arena.specs.Decode.{may_store, decode}
+use Rattle.arena.specs.Decode.{may_store}
 use Rattle.arena.proofs.Tests.{yes-every}
 use Rattle.planning.specs.Plan as nodes
 use Rattle.plan.specs.Decode.{decode_plan}

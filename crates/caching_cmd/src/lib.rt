@@ -1,5 +1,7 @@
 // Resolving, after `CacheablePipeline::resolve` of caching/cmd.rs: a plan and the replies to what was sent become the result, and what was fetched is
 // stored. Nothing is asked of the caller: what is wrong is refused by a cause's number. specs/Call.antt says what comes out, for all input.
+#![tactic(auto)]
+
 ghost use Rattle.std.specs.Prelude.{◌≡◌, true, ℕ, ◌≤◌, length};
 ghost use Rattle.buffer.specs.Part.{put};
 ghost use Rattle.resp3.specs.Ends.{is_value};
