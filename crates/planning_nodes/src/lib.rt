@@ -1,6 +1,8 @@
 // A command's keys looked up, each one's node written to the plan as it is found, and the outcome; after `get_cached_cmd` (cache_manager.rs). Each key is
 // searched once. specs/Prepared.antt says what it comes to.
 // `seen` is a filter of keys that tells of the arena (crate key_filter), and of what lookups leave of it: a key that it says is absent is not searched for.
+#![tactic(auto)]
+
 ghost use Rattle.std.specs.Prelude.{ℕ, ◌+◌, ◌^◌, ◌≤◌, ◌<◌, length, [], ◌∷◌};
 ghost use Rattle.config.specs.Limits.{max_bytes};
 ghost use Rattle.format.specs.Lists.{enc_all};
@@ -31,7 +33,7 @@ use shard_lookup::Looked;
 use statistics::Statistics;
 
 // How far the places of several keys are written: where the next node goes, how many keys wait, and the counts.
-#[derive(Drop)]
+#[derive(Clone, Copy)]
 pub struct Written {
     pub to: usize,
     pub missing: usize,
@@ -39,7 +41,7 @@ pub struct Written {
 }
 
 // A command's outcome, where the places of several keys begin, where its nodes end, and the counts after its lookups.
-#[derive(Drop)]
+#[derive(Clone, Copy)]
 pub struct Prepared {
     pub result: CachingResult,
     pub places: usize,
