@@ -37,7 +37,6 @@ use Rattle.caching_cmd.specs.Laws.{PlanRead, plan-read, starts, many-answers}
 use Rattle.served.specs.declared.ServedAnswer.{ServedAnswer}
 use Rattle.served.specs.declared.ServedAnswer.TheVariants.{Answered, NeedsReplies, Refused}
 use Rattle.served.specs.Served.{with_answer, served_answers, served_from, buffer_from, served_of, buffer_of, served_call, served_buffer, ServedIs}
-use Rattle.served.specs.Cases.{hands_on}
 
 -- ---- commands and replies
 
