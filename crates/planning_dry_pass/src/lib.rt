@@ -1,6 +1,8 @@
 // The dry pass of planning: whether what planning writes fits its two buffers, found by peeking, before anything is written or looked up.
 // specs/Size.antt measures a command, crate room counts the room down; planning_outcome says what is written for each command.
 // `seen` is a filter of keys that tells of the arena (crate key_filter): a key that it says is absent is not searched for.
+#![tactic(auto)]
+
 ghost use Rattle.std.specs.Prelude.{◌≡◌, ◌||◌, ℕ, ◌≤◌, length};
 ghost use Rattle.config.specs.Limits.{max_bytes, max_arguments};
 ghost use Rattle.config.specs.declared.CacheMode.{CacheMode};
@@ -26,7 +28,7 @@ use room::Room;
 use shard_lookup::Looked;
 
 // The bytes that a command takes in the plan and in what is sent.
-#[derive(Drop)]
+#[derive(Clone, Copy)]
 pub struct Size {
     pub plan: usize,
     pub send: usize,
