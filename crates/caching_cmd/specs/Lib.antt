@@ -4,6 +4,5 @@ pub mod Parts
 pub mod Settle
 pub mod Laws
 pub mod Heads
-pub mod Listed
 pub mod Told
 pub mod ToldLaws

@@ -32,7 +32,8 @@ use Rattle.resolving_passes.specs.declared.Dry.TheVariants.{Fits, Short, Wrong}
 use Rattle.resolving_passes.specs.Passes.{dry_of, Starts, Begins, DryIs, answer_bytes}
 use Rattle.resp3_element.specs.declared.Cursor.{Cursor}
 use Rattle.caching_cmd.specs.Parts.{start_at}
-use Rattle.caching_cmd.specs.Settle.{dry_for, dry-says, Many}
+use Rattle.caching_cmd.specs.Settle.{dry_for, Many}
+use Rattle.caching_cmd.proofs.Settle.{dry-says}
 use Rattle.caching_cmd.specs.Laws.{PlanRead, plan-read, starts, many-answers}
 use Rattle.served.specs.declared.ServedAnswer.{ServedAnswer}
 use Rattle.served.specs.declared.ServedAnswer.TheVariants.{Answered, NeedsReplies, Refused}

@@ -1,12 +1,12 @@
 -- `caching_cmd::resolve_checked` meets its contract. Assumes nothing.
 use Rattle.resp3.proofs.Law.{value-means}
 use Rattle.caching_cmd.specs.Laws as law
-use Rattle.caching_cmd.specs.Listed as listed
+use Rattle.caching_cmd.proofs.Listed as listed
 use Rattle.caching_cmd.specs.Heads as heads
 use native.Mathlib.Omega.{arith}
 use Rattle.buffer.specs.Part.{part}
 use Rattle.resp3.specs.Decode as resp
-use Rattle.caching_cmd.specs.Settle as settle
+use Rattle.caching_cmd.proofs.Settle as settle
 use Rattle.caching_cmd.proofs.resolve_checked.Goals as goal
 
 pub is_transaction-requires : goal.is_transaction-requires

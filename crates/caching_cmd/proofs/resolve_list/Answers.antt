@@ -1,6 +1,6 @@
 -- `caching_cmd::resolve_list` meets its contract. Assumes nothing.
 use Rattle.caching_cmd.specs.Laws as law
-use Rattle.caching_cmd.specs.Listed as listed
+use Rattle.caching_cmd.proofs.Listed as listed
 use lib.ListN.{length}
 use Rattle.caching_cmd.proofs.resolve_list.Goals as goal
 

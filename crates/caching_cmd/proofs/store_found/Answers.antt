@@ -1,5 +1,5 @@
 -- `caching_cmd::store_found` meets its contract. Assumes nothing.
-use Rattle.caching_cmd.specs.Listed as listed
+use Rattle.caching_cmd.proofs.Listed as listed
 use Rattle.resolving_passes.specs.declared.Dry.TheVariants.{Fits, Short, Wrong}
 use Rattle.caching_cmd.proofs.store_found.Goals as goal
 

@@ -1,7 +1,7 @@
 -- `caching_cmd::store_if` meets its contract. Assumes nothing.
 use mathlib.Core.Path.{ap}
 use mathlib.Core.Bool.{not}
-use Rattle.caching_cmd.specs.Listed as listed
+use Rattle.caching_cmd.proofs.Listed as listed
 use Rattle.caching_cmd.proofs.store_if.Goals as goal
 
 pub returns-then-not-kept : goal.returns-then-not-kept

@@ -5,7 +5,7 @@ use lib.ListN.{length}
 use Rattle.config.specs.declared.CacheMode.TheVariants.{All}
 use Rattle.room.specs.Room.{spent, whole}
 use Rattle.caching_cmd.specs.Laws.{plan-read}
-use Rattle.caching_cmd.specs.Listed as listed
+use Rattle.caching_cmd.proofs.Listed as listed
 use Rattle.served.specs.Laws as law
 use Rattle.served.proofs.served_checked.Goals as goal
 

@@ -7,7 +7,7 @@ use Rattle.buffer.specs.Part.{put}
 use Rattle.config.specs.declared.CacheMode.TheVariants.{All}
 use Rattle.resolving_walk.specs.Walk.{walk}
 use Rattle.resolving_passes.specs.Passes.{answer_bytes}
-use Rattle.caching_cmd.specs.Listed as listed
+use Rattle.caching_cmd.proofs.Listed as listed
 use Rattle.served.proofs.write_served.Goals as goal
 
 pub answer_pass-requires : goal.answer_pass-requires

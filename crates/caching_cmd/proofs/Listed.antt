@@ -28,7 +28,8 @@ use Rattle.caching_cmd.specs.declared.ResolveAnswer.{ResolveAnswer}
 use Rattle.caching_cmd.specs.declared.ResolveAnswer.TheVariants.{Refused}
 use Rattle.caching_cmd.specs.declared.Found.TheVariants.{No}
 use Rattle.caching_cmd.specs.Parts.{FoundIs, start_at, Listed, StoredIf, StoredFor, ShapeRefused, AllWritten, Judged}
-use Rattle.caching_cmd.specs.Settle.{dry_for, dry-says, fine-dry, fine-head, settle-wrong, settle-short, settle-fits}
+use Rattle.caching_cmd.specs.Settle.{dry_for}
+use Rattle.caching_cmd.proofs.Settle.{dry-says, fine-dry, fine-head, settle-wrong, settle-short, settle-fits}
 use Rattle.caching_cmd.specs.Laws.{PlanRead, plan-read, starts, many-answers, goes-not}
 
 -- the passes begin
