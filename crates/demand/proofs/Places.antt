@@ -19,7 +19,6 @@ use Rattle.planning.specs.Outcome.{single_item, multiple_item, outcome, outcomes
 use Rattle.planning.specs.Plan as nodes
 use Rattle.planning.specs.Plan.{Node, end_of_several, value_nodes, place_nodes, served_nodes, missing_nodes, nodes_of}
 use Rattle.demand.specs.Words.{Got, got, missed, places_in, lookups_in}
-use Rattle.demand.specs.Demand.{number}
 
 -- ---- what an answer is shown as
 

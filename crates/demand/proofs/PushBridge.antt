@@ -7,7 +7,6 @@ use Rattle.buffer.specs.Same.{Bytes}
 use Rattle.config.specs.Causes.{bad_reply}
 use Rattle.config.specs.Config.{refused, settings_of}
 use Rattle.resp3.specs.Ends.{is_value}
-use Rattle.resp3.specs.Value.{none}
 use Rattle.resp3.specs.Decode as resp
 use Rattle.book.specs.Book.{Book, invalidate, after_all}
 use Rattle.book.specs.Calls.{after_call, call-defs}

@@ -22,7 +22,6 @@ use Rattle.book.specs.Calls.{Storing, Call, stores, invalidations, ons, events_o
 use Rattle.arena.specs.Tests.{WellFormed}
 use Rattle.arena.proofs.Sequence.{outcome_of}
 use Rattle.planning.specs.Plan as nodes
-use Rattle.planning.specs.Planning.{call_of}
 use Rattle.plan.specs.Decode.{decode_plan}
 use Rattle.resolving_walk.specs.Commands.{plan_read}
 use Rattle.resolving.specs.Resolve.{Resolved, cause7, answered, resolve}
@@ -36,7 +35,6 @@ use Rattle.caching.specs.Exported.{flag_of, bytes_of}
 use Rattle.demand.specs.Call as real
 use Rattle.demand.specs.Call.{RealCall, Return, cause_of, if_fine, book_call}
 use Rattle.demand.specs.Words.{gots_of, lookups_in}
-use Rattle.demand.specs.Demand.{number}
 use Rattle.demand.specs.Replies.{Reply, respond, return_for, planning_return, result_reply, resolved_reply, plan_lent, resolving_return, single_number}
 use Rattle.demand.specs.Replies.{single_value}
 use Rattle.demand.proofs.BookCalls.{of-single, of-push, of-resolving, of-fine}

@@ -27,7 +27,7 @@ use Rattle.caching_cmd.specs.Call.{fits, told_to}
 use Rattle.caching_cmd.specs.Told.{told_by}
 use Rattle.demand.specs.Call as real
 use Rattle.demand.specs.Call.{RealCall, cause_of, book_call}
-use Rattle.demand.specs.Demand.{setup, told, CallIn, returned, number, book_before}
+use Rattle.demand.specs.Demand.{setup, CallIn, returned, number, book_before}
 use Rattle.demand.specs.Replies.{Reply, Response, return_for, result_reply, resolved_reply, plan_lent, resolving_return}
 use Rattle.demand.specs.CorollaryWords.{StopsAt, no_list, at_command}
 use Rattle.demand.specs.Corollaries.{response, Stopped}

@@ -20,7 +20,6 @@ use Rattle.book.proofs.Ways.{Way}
 use Rattle.book.specs.Counted.{Counted}
 use Rattle.book.specs.Trace.{SoundBook}
 use Rattle.arena.specs.Layout.{encode}
-use Rattle.arena.specs.Decode.{decode}
 use Rattle.arena.specs.Held.{Held}
 use Rattle.planning.specs.Plan.{Plan}
 use Rattle.plan.specs.Decode.{decode_plan}

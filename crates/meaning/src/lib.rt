@@ -1,1 +1,2 @@
-// What each exported function answers, by meaning alone: definitions and theorems only (specs/), no code.
+// What each exported function answers, by meaning alone: definitions and theorems only (specs/, proofs/), no code.
+#![tactic(auto)]
