@@ -2,6 +2,8 @@
 // sent for it, its
 // missing keys read from those nodes. That this is what the dry pass has measured is specs/Unseen.antt: a planning's lookups change no command's outcome.
 // `seen` is a filter of keys, as in planning_nodes.
+#![tactic(auto)]
+
 ghost use Rattle.std.specs.Prelude.{ℕ, ◌+◌, ◌*◌, ◌^◌, ◌≤◌, ◌<◌, length};
 ghost use Rattle.config.specs.Limits.{max_bytes};
 ghost use Rattle.cursor.specs.At.{command_of, commands_of};
@@ -19,7 +21,7 @@ use planning_places::Source;
 use statistics::Statistics;
 
 // How far the pass is: the place in the plan buffer, the place in the send buffer, how many commands are sent, and the counts.
-#[derive(Drop)]
+#[derive(Clone, Copy)]
 pub struct Progress {
     pub to: usize,
     pub from: usize,
