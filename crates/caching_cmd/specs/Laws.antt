@@ -36,7 +36,7 @@ use Rattle.call_entry.specs.Laws.{not_entered}
 use Rattle.planning.specs.Plan.{enc_node, enc_plan, plan_head_size, null_start}
 use Rattle.planning.specs.Rules.{GoodPlan}
 use Rattle.plan.specs.Decode.{read_plan, is_plan, decode_plan}
-use Rattle.plan.specs.Law.{read-start, read_back, plan-law}
+use Rattle.plan.proofs.Law.{read-start, read_back, plan-law}
 use Rattle.resolving_walk.specs.Commands.{plan_read}
 use Rattle.resolving.specs.Convert.{then_only_list, replies_of}
 use Rattle.resolving.specs.Resolve.{Resolved, cause7, answered, resolve}

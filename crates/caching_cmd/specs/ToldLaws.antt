@@ -16,7 +16,7 @@ use Rattle.arena.specs.Decode.{may_store}
 use Rattle.arena.proofs.Tests.{yes-every}
 use Rattle.planning.specs.Plan as nodes
 use Rattle.plan.specs.Decode.{decode_plan}
-use Rattle.plan.specs.Law as plan_laws
+use Rattle.plan.proofs.Law as plan_laws
 use Rattle.resolving_walk.specs.Commands.{plan_read}
 use Rattle.resolving_walk.proofs.NodesLaws.{plan-within}
 use Rattle.resolving.specs.Resolve.{Resolved, cause7, answered, resolve}

@@ -19,7 +19,7 @@ use Rattle.arena.specs.Held.{Held}
 use Rattle.sharded_lru.specs.Lent.{setup_now}
 use Rattle.planning.specs.Plan.{Plan, enc_plan}
 use Rattle.planning.specs.Rules.{GoodPlan}
-use Rattle.plan.specs.Law as plans
+use Rattle.plan.proofs.Law as plans
 use Rattle.resolving_walk.specs.Commands.{plan_read}
 use Rattle.resolving.specs.Resolve.{resolve}
 use Rattle.single_calls.specs.Single.{Return, refused_as, single_call}

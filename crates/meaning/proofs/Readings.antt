@@ -30,7 +30,7 @@ use Rattle.arena.proofs.Sizes.{sized}
 use Rattle.sharded_lru.specs.Lent.{setup_now}
 use Rattle.call_entry.specs.Entered.{no_cause}
 use Rattle.single_calls.specs.Single.{number_of, served_by}
-use Rattle.plan.specs.Law as plans
+use Rattle.plan.proofs.Law as plans
 use Rattle.meaning.specs.Meaning.{Readings}
 use Rattle.meaning.specs.Rows.{MayStore, Storable, Image}
 use Rattle.meaning.proofs.NodeLaws.{order-means, commands-mean}

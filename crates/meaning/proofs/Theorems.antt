@@ -32,7 +32,7 @@ use Rattle.sharded_lru.specs.Lent.{setup_now}
 use Rattle.call_entry.specs.Entered.{holding, on_rows, entered}
 use Rattle.planning.specs.Plan as nodes
 use Rattle.plan.specs.Decode.{decode_plan}
-use Rattle.plan.specs.Law as plans
+use Rattle.plan.proofs.Law as plans
 use Rattle.single_calls.specs.Single as singles
 use Rattle.single_calls.specs.Single.{Return, refused_as, overlong, wrong_bytes, called_on, single_call}
 use Rattle.single_calls.specs.Place.{served_at, place_left, place_under, lookup_place}

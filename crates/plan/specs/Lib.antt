@@ -3,5 +3,3 @@ pub mod Node
 pub mod There
 pub mod Paths
 pub mod Decode
-pub mod Law
-pub mod Cases

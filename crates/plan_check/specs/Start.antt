@@ -16,7 +16,7 @@ use Rattle.resp3.specs.Value.{encode, null_bytes}
 use Rattle.planning.specs.Plan.{enc_node, enc_plan, plan_head_size, null_start}
 use Rattle.planning.specs.Rules.{values_then, ordered, IsPlan}
 use Rattle.plan.specs.Decode.{is_plan}
-use Rattle.plan.specs.Law.{read-start, plan-law}
+use Rattle.plan.proofs.Law.{read-start, plan-law}
 use Rattle.plan_check.specs.declared.Walk.{Walk}
 use Rattle.plan_check.specs.declared.Walked.TheVariants.{To, Refused}
 use Rattle.plan_check.specs.Check.{walked_past, finished, start_fine, start_at}

@@ -17,7 +17,7 @@ use Rattle.planning.proofs.Gives.{missing_of, all_missing}
 use Rattle.planning.proofs.Kept.{GoodAnswer, good-plan}
 use Rattle.planning.specs.Rules.{GoodPlan}
 use Rattle.resolving.specs.Plan.{Plan}
-use Rattle.plan.specs.Law.{decode-law}
+use Rattle.plan.proofs.Law.{decode-law}
 use Rattle.resolving_walk.specs.Commands.{value_at, place_at, values_at, places_at, commands_of, plan_read}
 use Rattle.plan_outcomes.specs.Outcomes.{values_given, place_given, served_given, missing_given, command_given, plan_given}
 use Rattle.plan_outcomes.specs.Outcomes.{places_missing, command_missing, commands_missing}

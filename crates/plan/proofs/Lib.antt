@@ -1,0 +1,3 @@
+-- Laws of the definitions in specs/, and what the proofs of functions use.
+pub mod Cases
+pub mod Law
