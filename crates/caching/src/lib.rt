@@ -1,6 +1,8 @@
 // The cache's C linkage: every exported function, thin over the calls below. include/redis_cache.h declares them and says what each parameter means.
 // Contracts equate what comes out with the definitions that the calls have; a slice crosses as a pointer and a length. The single calls stand here,
 // each of the others in a file of its own.
+#![tactic(auto)]
+
 pub mod epoch_call;
 pub mod plan_call;
 pub mod push_call;
@@ -112,8 +114,7 @@ fn none_yet() -> Statistics
 // A number of 64 bits is below 2^64.
 fn fits(n: u64)
     ensures { n < 2 ^ 64 }
-{
-}
+{}
 
 // The counts in a record are numbers of 64 bits. Does nothing.
 fn counted(counts: Statistics)
