@@ -1,4 +1,3 @@
 pub mod Served
 pub mod Cases
 pub mod Laws
-pub mod Same

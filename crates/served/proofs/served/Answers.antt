@@ -1,7 +1,7 @@
 -- `served::served` meets its contract. Assumes nothing.
 use mathlib.Core.Path.{refl, sym, ◌∙◌}
 use Rattle.buffer.specs.Part.{part}
-use Rattle.served.specs.Laws as law
+use Rattle.served.proofs.Laws as law
 use Rattle.served.proofs.served.Goals as goal
 
 pub returns-then-not-is_plan : goal.returns-then-not-is_plan

@@ -6,7 +6,7 @@ use Rattle.config.specs.declared.CacheMode.TheVariants.{All}
 use Rattle.room.specs.Room.{spent, whole}
 use Rattle.caching_cmd.specs.Laws.{plan-read}
 use Rattle.caching_cmd.proofs.Listed as listed
-use Rattle.served.specs.Laws as law
+use Rattle.served.proofs.Laws as law
 use Rattle.served.proofs.served_checked.Goals as goal
 
 pub is_transaction-transaction-requires : goal.is_transaction-transaction-requires

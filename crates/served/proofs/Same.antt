@@ -36,7 +36,8 @@ use Rattle.call_entry.specs.Entered.{on_rows, entered}
 use Rattle.served.specs.declared.ServedAnswer.{ServedAnswer}
 use Rattle.served.specs.declared.ServedAnswer.TheVariants.{Answered as Served, NeedsReplies, Refused as NotServed}
 use Rattle.served.specs.Served.{served_answers, served_from, buffer_from, served_of, buffer_of, served_call, served_buffer}
-use Rattle.served.specs.Laws.{all-served, no-replies, no_list, list-none}
+use Rattle.served.specs.Laws.{no_list}
+use Rattle.served.proofs.Laws.{all-served, no-replies, list-none}
 
 -- what resolving would answer: as many bytes and no store refused, or the same cause; a command that needs replies and finds none is cause 7
 abbrev pub as_resolving : ServedAnswer → ResolveAnswer
