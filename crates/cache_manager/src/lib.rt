@@ -1,5 +1,7 @@
 // Planning: `get_cached_pipeline` (cache_manager.rs), on a lent arena, a call record and two lent buffers. Nothing is asked of the caller: what is wrong is
 // refused by a cause's number. specs/Pipeline.antt says what is returned and left.
+#![tactic(auto)]
+
 ghost use Rattle.std.specs.Prelude.{◌≡◌, ◌||◌, ℕ, ◌+◌, ◌^◌, ◌≤◌, ◌<◌, ltb, length};
 ghost use Rattle.config.specs.Limits.{max_bytes, max_commands};
 ghost use Rattle.call_record.specs.Check.{check_def};
@@ -26,7 +28,7 @@ use sharded_lru::Admitted;
 use statistics::Statistics;
 
 // What planning wrote: so many bytes to the plan buffer and to the send buffer; and how many responses are skipped and then taken.
-#[derive(Drop)]
+#[derive(Clone, Copy)]
 pub struct Written {
     pub plan: usize,
     pub send: usize,
@@ -35,7 +37,7 @@ pub struct Written {
 }
 
 // What planning comes to.
-#[derive(Drop)]
+#[derive(Clone, Copy)]
 pub enum Pipelined {
     Done(Written),
     // The call record is wrong at this offset.
@@ -45,7 +47,7 @@ pub enum Pipelined {
 }
 
 // What planning returns: with the counts, which it was given by value.
-#[derive(Drop)]
+#[derive(Clone, Copy)]
 pub struct CachedPipeline {
     pub answer: Pipelined,
     pub counts: Statistics,
