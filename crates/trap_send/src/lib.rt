@@ -1,6 +1,8 @@
 // What the program trap_plan sends: the call record is planned, at clock 0 in mode All, on a cache of four keys that holds nothing (docs/BEHAVIOUR.md, T1).
 // A plan of such a record can be far longer than what is sent for it, so none is written: planning's own pieces are: on the empty cache
 // every key waits. specs/Send.antt says what is written.
+#![tactic(auto)]
+
 ghost use Rattle.std.specs.Prelude.{◌≡◌, ℕ, ◌≤◌, length};
 ghost use Rattle.config.specs.Limits.{max_bytes};
 ghost use Rattle.call_record.specs.Check.{check_def};
@@ -38,7 +40,7 @@ const MODE: u64 = 0;
 const TTL: u64 = 1_800_000;
 
 // What is sent.
-#[derive(Drop)]
+#[derive(Clone, Copy)]
 pub enum Sent {
     // So many bytes from the buffer's beginning.
     Front(usize),
@@ -56,7 +58,7 @@ fn command_len(bytes: &[u8], head: Head, arena: &[u8], g: Settings, when: Now) -
 }
 
 // A command's outcome where no key is served, and where its keys are read from.
-#[derive(Drop)]
+#[derive(Clone, Copy)]
 pub struct Waiting {
     pub result: CachingResult,
     pub keys: Source,
