@@ -3,7 +3,6 @@ use Rattle.book.specs.Book.{invalidate}
 use Rattle.single_calls.specs.Single.{single_call}
 use Rattle.caching.proofs.More.{single_more}
 use Rattle.caching.proofs.Adds.{added-as}
-use Rattle.std.proofs.Common.{rules}
 use Rattle.caching.proofs.invalidate_counting.Goals as goal
 
 pub returns : goal.returns

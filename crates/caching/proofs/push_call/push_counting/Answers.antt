@@ -2,7 +2,6 @@
 use Rattle.push.specs.Push.{push_call}
 use Rattle.caching.proofs.More.{push-more}
 use Rattle.caching.proofs.Adds.{added-as}
-use Rattle.std.proofs.Common.{rules}
 use Rattle.caching.proofs.push_call.push_counting.Goals as goal
 
 pub returns : goal.returns
