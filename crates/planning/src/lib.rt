@@ -1,5 +1,5 @@
-// The plan's sizes and the kinds of its nodes, as specs/Plan.antt names them. All else of planning (part P of docs/BEHAVIOUR.md) is definitions and
-// theorems, in specs/.
+// The plan's sizes and the kinds of its nodes, as specs/Plan.antt names them. All else of planning (part P of docs/BEHAVIOUR.md) is definitions,
+// in specs/, and theorems, in proofs/.
 
 // Bytes of the plan's head.
 pub const PLAN_HEAD: usize = 8;

@@ -1,5 +1,5 @@
 // A plan whose commands are all served, answered without arena and replies: the passes of resolving over no replies at all. Causes 10 and 8; where
-// some command needs replies, that is said. specs/Served.antt says what comes out, specs/Same.antt that resolving would answer the same.
+// some command needs replies, that is said. specs/Served.antt says what comes out, proofs/Same.antt that resolving would answer the same.
 #![tactic(auto)]
 
 ghost use Rattle.std.specs.Prelude.{◌≡◌, true, ◌≤◌, length};
