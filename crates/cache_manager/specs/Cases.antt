@@ -1,6 +1,6 @@
 -- Plannings on a cache of one key, computed on bytes: each cause against the next one in order, both buffers at their borders, and what is written
 -- and left. They
--- lean on the definitions alone, with SipHash and RESP3 as they are; outcomes by themselves are computed in planning/specs/Cases.antt. Assumes nothing.
+-- lean on the definitions alone, with SipHash and RESP3 as they are; outcomes by themselves are computed in planning/proofs/Cases.antt. Assumes nothing.
 use Rattle.std.specs.Prelude.{◌≡◌, refl, [], ◌∷◌, ◌++◌, ℕ, length, replicate}
 use Rattle.buffer.specs.Same.{Bytes, same}
 use Rattle.buffer.specs.Field.{le, le32, le64, read_le}

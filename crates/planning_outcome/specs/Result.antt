@@ -49,7 +49,7 @@ module _ (p : Setup) (rows : ℕ → Row) (t e : ℕ) where
   several_item s v x =
       plan.multiple_item (plan.missing (places_on (wanted_in s v))) (several_name v.json) (places_on (wanted_in s v)) (path_in s v) x
 
-  -- a command's outcome, from the answers on these rows (`outcome_on` of planning/specs/Passes.antt, on a book: Places.antt, `outcome-on`)
+  -- a command's outcome, from the answers on these rows (`outcome_on` of planning/proofs/Passes.antt, on a book: Places.antt, `outcome-on`)
   unfoldable pub outcome_for : (Command → Ask) → Command → plan.CachingResult
   outcome_for asks c = plan.outcome c (asks c) (said_on (plan.wants c (asks c)))
 

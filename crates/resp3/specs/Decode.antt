@@ -1,5 +1,5 @@
 -- The value that bytes hold, read off beside where it ends (specs/Ends.antt). Assumes nothing: these are definitions.
--- Nobody has to believe them: specs/Law.antt shows that what they find is what was written.
+-- Nobody has to believe them: proofs/Law.antt shows that what they find is what was written.
 use Rattle.std.specs.Prelude.{Bool, cond, [], ℕ, zero, suc, ◌+◌, ◌-◌, eqb, get_or, take, drop, ℤ, pos, negsuc}
 use Rattle.buffer.specs.Same.{Bytes}
 use Rattle.config.specs.Limits.{max_depth}

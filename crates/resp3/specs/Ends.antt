@@ -1,5 +1,5 @@
 -- Where a value ends, read off the bytes from a place on: what the reader computes. Assumes nothing: these are definitions.
--- Nobody has to believe them: specs/Law.antt shows that they agree with specs/Value.antt.
+-- Nobody has to believe them: proofs/Law.antt shows that they agree with specs/Value.antt.
 use Rattle.std.specs.Prelude.{Bool, true, false, cond, [], ◌∷◌, ℕ, zero, suc, ◌+◌, leb, eqb, length, get_or, drop}
 use Rattle.buffer.specs.Same.{Bytes}
 use Rattle.config.specs.Limits.{max_bytes, max_depth}

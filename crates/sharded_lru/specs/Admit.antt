@@ -17,7 +17,7 @@ use Rattle.sharded_lru.specs.declared.Admitted.{Admitted}
 use Rattle.sharded_lru.specs.declared.Admitted.TheVariants.{Admits, Refused}
 use Rattle.sharded_lru.specs.Lent.{setup_now, Lent, Arena}
 
--- from the outcome of cause 1's test; which bytes cause 9 refuses is rule A2 (arena/specs/Sizes.antt, `cause-nine-for`)
+-- from the outcome of cause 1's test; which bytes cause 9 refuses is rule A2 (arena/proofs/Sizes.antt, `cause-nine-for`)
 abbrev pub admitted_by : CheckedConfig → Bytes → Admitted
 admitted_by BadConfig s = Refused bad_config
 admitted_by (Fine g) s = cond (is_image is_value (setup_now g) s) (Admits g) (Refused bad_arena)

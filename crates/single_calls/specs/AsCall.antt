@@ -1,4 +1,4 @@
--- A single call as the book's call on bytes (arena/specs/Sequence.antt). Assumes nothing: these are definitions.
+-- A single call as the book's call on bytes (arena/proofs/Sequence.antt). Assumes nothing: these are definitions.
 use Rattle.std.specs.Prelude.{ℕ, ◌^◌, ◌<◌, cond, [], ◌∷◌}
 use Rattle.std.proofs.Math.Option.{Option, none}
 use Rattle.buffer.specs.Same.{Bytes}
