@@ -23,7 +23,8 @@ use Rattle.planning.proofs.Passes as passes
 use Rattle.plan_write.specs.Pieces.{plan_head, plan-pieces}
 use Rattle.sharded_lru.specs.Lent.{setup_now}
 use Rattle.planning_outcome.specs.Sizes.{outcomes_for, all_nodes, all_sent, sent_count, nodes-are, sent-are, count-is, outcomes-on, outcomes-are}
-use Rattle.planning_send_len.specs.Wrapped.{start_bytes, end_bytes, wrapped-bytes}
+use Rattle.planning_send_len.specs.Wrapped.{start_bytes, end_bytes}
+use Rattle.planning_send_len.proofs.Wrapped.{wrapped-bytes}
 use Rattle.cache_manager.specs.Pipeline.{refused_as, wrote, refusal, pipelined, recorded}
 
 module _ (p : Setup) (rows : ℕ → Row) (t e : ℕ) (g : Settings) (b : Bool) (cs : List Command) where

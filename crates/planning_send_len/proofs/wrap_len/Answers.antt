@@ -1,5 +1,5 @@
 -- `wrap_len` meets its contract. Assumes nothing.
-use Rattle.planning_send_len.specs.Wrapped as wrap
+use Rattle.planning_send_len.proofs.Wrapped as wrap
 use Rattle.planning_send_len.proofs.wrap_len.Goals as goal
 
 pub returns-then-transaction : goal.returns-then-transaction

@@ -1,6 +1,6 @@
 -- `write_end` meets its contract. Assumes nothing.
 use Rattle.plan_write.specs.Wrote.{wrote-is, wrote_none, room-is}
-use Rattle.planning_send_len.specs.Wrapped as wrap
+use Rattle.planning_send_len.proofs.Wrapped as wrap
 use Rattle.planning_send_len.proofs.write_end.Goals as goal
 
 pub write_exec-requires : goal.write_exec-requires

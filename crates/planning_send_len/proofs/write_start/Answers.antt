@@ -1,6 +1,6 @@
 -- `write_start` meets its contract. Assumes nothing.
 use Rattle.plan_write.specs.Wrote.{wrote-is, wrote_none, room-is}
-use Rattle.planning_send_len.specs.Wrapped as wrap
+use Rattle.planning_send_len.proofs.Wrapped as wrap
 use Rattle.planning_send_len.proofs.write_start.Goals as goal
 
 pub write_multi-requires : goal.write_multi-requires
