@@ -1,4 +1,4 @@
--- `call_record::arguments_end` meets its contract by its loop's invariant `Inv-loop`. Assumes nothing.
+-- `call_record::arguments_end` meets its contract by its loop's invariant. Assumes nothing.
 use mathlib.Core.Path.{refl, sym, ◌∙◌}
 use Prim.Native.Nat.{ℕ, ◌-◌}
 use native.Mathlib.Omega.{arith}

@@ -1,4 +1,4 @@
--- `call_record::number_end` meets its contract by its loop's invariant `Inv-loop`. Assumes nothing.
+-- `call_record::number_end` meets its contract by its loop's invariant. Assumes nothing.
 use mathlib.Core.Path.{◌≡◌, refl, sym, ap, ◌∙◌}
 use Prim.Native.Nat.{ℕ, ◌+◌, ◌-◌, ◌/◌}
 use native.Mathlib.Omega.{arith}

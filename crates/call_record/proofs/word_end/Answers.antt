@@ -1,4 +1,4 @@
--- `call_record::word_end` meets its contract by its loop's invariant `Inv-loop`. Assumes nothing.
+-- `call_record::word_end` meets its contract by its loop's invariant. Assumes nothing.
 use mathlib.Core.Path.{refl, sym, ◌∙◌}
 use native.Mathlib.Omega.{arith}
 use Rattle.call_record.specs.Paths as laws

@@ -1,4 +1,4 @@
--- `call_record::word_end` meets its contract by its loop's invariant `Inv-loop`. Assumes nothing.
+-- `call_record::word_end` meets its contract by its loop's invariant. Assumes nothing.
 use mathlib.Core.Path.{◌≡◌}
 use Prim.Native.Nat.{◌-◌, ◌≤◌}
 use lib.ListN.{length, drop}

@@ -1,4 +1,4 @@
--- `cmd::args_len` meets its contract by its loop's invariant `Inv-loop`. Assumes nothing.
+-- `cmd::args_len` meets its contract by its loop's invariant. Assumes nothing.
 use mathlib.Core.Path.{◌≡◌, ap}
 use Prim.Native.Nat.{ℕ, ◌+◌, ◌-◌}
 use native.Mathlib.Omega.{arith}

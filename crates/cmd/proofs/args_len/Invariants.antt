@@ -1,4 +1,4 @@
--- `cmd::args_len` meets its contract by its loop's invariant `Inv-loop`. Assumes nothing.
+-- `cmd::args_len` meets its contract by its loop's invariant. Assumes nothing.
 use mathlib.Core.Path.{◌≡◌}
 use Prim.Native.Nat.{◌+◌, ◌-◌, ◌*◌, ◌≤◌}
 use lib.ListN.{length}

@@ -1,4 +1,4 @@
--- `cmd::write_arguments` meets its contract by its loop's invariant `Inv-loop`. Assumes nothing.
+-- `cmd::write_arguments` meets its contract by its loop's invariant. Assumes nothing.
 use mathlib.Core.Path.{◌≡◌}
 use Prim.Native.Nat.{ℕ, ◌+◌, ◌-◌}
 use native.Mathlib.Omega.{arith}

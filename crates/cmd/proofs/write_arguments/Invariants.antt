@@ -1,4 +1,4 @@
--- `cmd::write_arguments` meets its contract by its loop's invariant `Inv-loop`. Assumes nothing.
+-- `cmd::write_arguments` meets its contract by its loop's invariant. Assumes nothing.
 use Rattle.cursor.specs.At.{ArgsIn}
 use Rattle.buffer.specs.Copied as cop
 use Rattle.cmd.specs.Laws as laws

@@ -1,4 +1,4 @@
--- `command_key::joined_copy` meets its contract by its loop's invariant `Inv-loop`. Assumes nothing.
+-- `command_key::joined_copy` meets its contract by its loop's invariant. Assumes nothing.
 use Rattle.cursor.specs.At.{ArgsIn}
 use Rattle.buffer.specs.Copied as cop
 use Rattle.command_key.specs.Joined as laws

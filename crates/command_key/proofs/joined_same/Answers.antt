@@ -1,4 +1,4 @@
--- `command_key::joined_same` meets its contract by its loop's invariant `Inv-loop`. Assumes nothing.
+-- `command_key::joined_same` meets its contract by its loop's invariant. Assumes nothing.
 use mathlib.Core.Path.{◌≡◌, refl, sym, ap, ◌∙◌}
 use Prim.Native.Nat.{ℕ, ◌+◌, ◌-◌}
 use native.Mathlib.Omega.{arith}

@@ -1,4 +1,4 @@
--- `command_key::joined_same` meets its contract by its loop's invariant `Inv-loop`. Assumes nothing.
+-- `command_key::joined_same` meets its contract by its loop's invariant. Assumes nothing.
 use mathlib.Core.Path.{◌≡◌}
 use Prim.Native.Nat.{◌≤◌}
 use lib.ListN.{length, drop}

@@ -1,4 +1,4 @@
--- `cursor::arg_idx` meets its contract by its loop's invariant `Inv-loop`. Assumes nothing.
+-- `cursor::arg_idx` meets its contract by its loop's invariant. Assumes nothing.
 use mathlib.Core.Path.{◌≡◌, refl, sym, ◌∙◌}
 use Prim.Native.Nat.{ℕ, ◌+◌, ◌-◌}
 use native.Mathlib.Omega.{arith}

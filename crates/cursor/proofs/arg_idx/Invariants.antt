@@ -1,4 +1,4 @@
--- `cursor::arg_idx` meets its contract by its loop's invariant `Inv-loop`. Assumes nothing.
+-- `cursor::arg_idx` meets its contract by its loop's invariant. Assumes nothing.
 use mathlib.Core.Path.{◌≡◌}
 use Prim.Native.Nat.{◌≤◌}
 use Rattle.cursor.specs.At.{args_at, ArgsIn}

@@ -1,4 +1,4 @@
--- `cursor::args_end` meets its contract by its loop's invariant `Inv-loop`. Assumes nothing.
+-- `cursor::args_end` meets its contract by its loop's invariant. Assumes nothing.
 use mathlib.Core.Path.{◌≡◌}
 use Rattle.cursor.specs.At.{args_end, ArgsIn}
 use Rattle.cursor.proofs.args_end.Given as goal
