@@ -1,6 +1,6 @@
 -- Of the setup that a size and an arena's length give (SetupOf.antt) cause 1 leaves what the theorems ask; so cause 9 for every size and every arena that
 -- cause 1 lets through. Assumes nothing; `hash` stands for SipHash-1-3 with both key words zero.
-use Rattle.std.specs.Prelude.{◌≡◌, ◌↔◌, ℕ, ◌≤◌, Bool, length}
+use Rattle.std.specs.Prelude.{◌≡◌, ◌↔◌, ℕ, ◌≤◌, Bool, length, Ok}
 use Rattle.std.proofs.Common.{arith, le-mul_of_pos_right, mul_comm}
 use Rattle.std.proofs.Math.Nat.{mod-lt, le_trans}
 use Rattle.std.proofs.Math.Option.{none}
@@ -9,7 +9,6 @@ use Rattle.buffer.specs.Field.{Octets}
 use Rattle.config.specs.Config.{checked}
 use Rattle.config.specs.Laws.{Passed, passed}
 use Rattle.config.specs.declared.Settings.{Settings}
-use Rattle.config.specs.declared.CheckedConfig.TheVariants.{Fine}
 use Rattle.book.specs.Book.{Counts}
 use Rattle.book.proofs.Trace.{Proper}
 use Rattle.arena.specs.Decode.{decode}
@@ -32,7 +31,7 @@ module _ (hash : Bytes → ℕ) (size mode ttl n : ℕ) (g : Settings) (w : Pass
 
 -- cause 9 for the settings g that cause 1 makes of a size and of this arena's length
 pub cause-nine-for : (is_value : Bytes → Bool) (hash : Bytes → ℕ) (size mode ttl : ℕ) (s : Bytes) (g : Settings) (lent : Counts)
-    → checked size mode ttl (length s) ≡ Fine g → Octets s → (decode is_value (setup_for hash g) s ≡ none) ↔ (LeftBy is_value (setup_for hash g) s lent → ⊥)
+    → checked size mode ttl (length s) ≡ Ok g → Octets s → (decode is_value (setup_for hash g) s ≡ none) ↔ (LeftBy is_value (setup_for hash g) s lent → ⊥)
 cause-nine-for is_value hash size mode ttl s g lent e b =
     let w = passed size mode ttl (length s) g e in
     cause-nine is_value (setup_for hash g) s (sized hash size mode ttl (length s) g w) (proper hash size mode ttl (length s) g w) lent b

@@ -1,39 +1,21 @@
 -- Blocks of things whose keys are compared with all behind them: what is found of one, and one after the other. Assumes nothing.
 use mathlib.Core.Path.{◌≡◌, sym, ap, ap₂, ◌∙◌, subst}
-use Prim.Native.Nat.{ℕ, zero, suc, ◌+◌, ◌-◌, ◌≤◌, ◌<◌}
+use Prim.Native.Nat.{ℕ, zero, suc, ◌+◌, ◌-◌, ◌≤◌}
 use native.Mathlib.Omega.{arith}
-use mathlib.Core.Bool.{Bool, not}
+use Rattle.std.specs.Prelude.{Option, Some, None, is_some}
 use lib.ListN.{length}
-use lib.Dec.{eqb, ltb}
-use borrow.Author.Tests.{eqb-true, eqb-false, ltb-true, ltb-false}
+use lib.Dec.{ltb}
+use borrow.Author.Tests.{ltb-true, ltb-false}
 use Rattle.buffer.specs.Cases.{by_test}
 use Rattle.buffer.specs.Same.{Bytes, same}
 use Rattle.arena_check.specs.Walk.{nth}
 use Rattle.arena_check.specs.Check.{key_in, next_in}
 use Rattle.arena_check.specs.Chain.{Stand, keys_from, Apart, Twice, Answers, Chained}
 
--- ---- what is found of a block
-
-pub chained_refused : (h f : ℕ) (s : Bytes) (first m n : ℕ) → Twice (keys_from h f s first) n → Chained h f s first m n 0
-chained_refused h f s first m n w = record { refused = λ e. w; place = λ l. absurd (omega arith); apart = λ l. absurd (omega arith) }
-
--- things end behind the start
-nth-above : (h f : ℕ) (s : Bytes) (first m : ℕ) → 0 < m → 4 ≤ h → 0 < nth (next_in h f s) m first
-unfolding nth
-nth-above h f s first zero a b = absurd (omega arith)
-nth-above h f s first (suc m) a b = omega arith
-
-pub chained-done : (h f : ℕ) (s : Bytes) (first m n end : ℕ) → end ≡ nth (next_in h f s) m first → 0 < m → 4 ≤ h → Apart (keys_from h f s first) m n
-    → Chained h f s first m n end
-chained-done h f s first m n end e a b w =
-    let l = nth-above h f s first m a b in record { refused = λ z. absurd (omega arith); place = λ z. e; apart = λ z. w }
-
 -- what is found of all things says whether a key is there twice
-pub chained-answers : (h f : ℕ) (s : Bytes) (first n r : ℕ) → Chained h f s first n n r → Answers (keys_from h f s first) (not (eqb r 0)) n n
-chained-answers h f s first n r w =
-    by_test (eqb r 0)
-    (λ e. subst (λ (t : Bool). Answers (keys_from h f s first) (not t) n n) (sym e) (w.refused (eqb-true r 0 e)))
-    (λ e. subst (λ (t : Bool). Answers (keys_from h f s first) (not t) n n) (sym e) (w.apart (omega (arith, eqb-false r 0 e))))
+pub chained-answers : (h f : ℕ) (s : Bytes) (first n : ℕ) (r : Option ℕ) → Chained h f s first n n r → Answers (keys_from h f s first) (is_some r) n n
+chained-answers h f s first n None w = w
+chained-answers h f s first n (Some e) w = w.1
 
 -- ---- block after block
 

@@ -131,18 +131,6 @@ compared mark key key_at place prev k c p x r w a b e q =
 
 -- ---- chains are made
 
--- tables of zeros
-pub tables-clear : (top m k : ℕ) → m ≤ k → Tables top m (replicate (top + 1) 0) (replicate k 0) (replicate k 0)
-tables-clear top m k h =
-    let a : length (replicate {A = ℕ} (top + 1) 0) ≡ top + 1 = length-replicate {A = ℕ} (top + 1) 0 in
-    let l : length (replicate {A = ℕ} k 0) ≡ k = length-replicate {A = ℕ} k 0 in
-    record {
-      marked = omega arith;
-      none = λ v q. get_or-replicate {A = ℕ} (top + 1) v 0 0 (omega arith);
-      linked = omega arith;
-      placed = omega arith;
-    }
-
 module _ (mark : Bytes → ℕ) (top : ℕ) (key_at : ℕ → Bytes) (next : ℕ → ℕ) (first : ℕ) where
   abbrev key : ℕ → Bytes
   key t = key_of key_at next first t

@@ -3,6 +3,7 @@ use mathlib.Core.Path.{◌≡◌, refl, sym, ◌∙◌}
 use Prim.Native.Nat.{ℕ, ◌+◌, ◌-◌, ◌%◌, ◌≤◌, ◌<◌}
 use native.Mathlib.Omega.{arith}
 use mathlib.Core.Bool.{Bool, true, false, cond}
+use Rattle.std.specs.Prelude.{Option}
 use lib.ListN.{take, drop}
 use lib.Dec.{eqb, leb}
 use borrow.Author.Tests.{le-leb, lt-leb, leb-true}
@@ -17,7 +18,7 @@ use Rattle.siphash.specs.Sip.{sip_hash13}
 use Rattle.arena.specs.Decode.{every}
 use Rattle.arena.proofs.Tests.{every-yes}
 use Rattle.arena_check.specs.Home.{home_in}
-use Rattle.arena_check.specs.Check.{key_in, key_at, entries_at, item_next, item_within, entries_end, item_ok}
+use Rattle.arena_check.specs.Check.{key_in, key_at, entries_at, item_next, item_within, ends, entries_end, item_ok}
 
 -- a test alone
 pub if-same : (b : Bool) → cond b true false ≡ b
@@ -39,9 +40,9 @@ module _ (s : Bytes) (end at : ℕ) where
   within-says e = let w = every-yes _ e in (leb-true _ _ w.0, leb-true _ _ w.1.0)
 
 -- the hash of the key, by the length that was read
-pub hash-read : (s : Bytes) (h at k r : ℕ) → k ≡ read32 s at → r ≡ sip_hash13 (take (at + h + k - (at + h)) (drop (at + h) s)) → r ≡ sip_hash13 (key_in h s at)
+pub hash-read : (s : Bytes) (h at x k r : ℕ) → x ≡ at + h → k ≡ read32 s at → r ≡ sip_hash13 (take (x + k - x) (drop x s)) → r ≡ sip_hash13 (key_in h s at)
 unfolding part
-hash-read s h at k r a e = let n : at + h + k - (at + h) ≡ k = omega arith in rw (n, a) at e
+hash-read s h at x k r i a e = let n : x + k - x ≡ k = omega arith in rw (n, i, a) at e
 
 -- the test of its shard, by the hash and the number that were worked out
 pub home-read : (shards shard hash home : ℕ) (k : Bytes) (b : Bool) → hash ≡ sip_hash13 k → home ≡ hash % shards → eqb home shard ≡ b
@@ -49,9 +50,9 @@ pub home-read : (shards shard hash home : ℕ) (k : Bytes) (b : Bool) → hash �
 home-read shards shard hash home k b h e t = rw (← h, ← e) t
 
 -- the test of its entries' end, by what was read
-pub ends_read : (s : Bytes) (at k n next r : ℕ) → k ≡ read32 s at → n ≡ read32 s (at + 4) → next ≡ item_next s at
-    → r ≡ entries_end is_value s next n (at + 32 + k) → eqb r next ≡ eqb (entries_end is_value s (item_next s at) (read32 s (at + 4)) (entries_at s at))
-    (item_next s at)
+pub ends_read : (s : Bytes) (at k n next : ℕ) (r : Option ℕ) → k ≡ read32 s at → n ≡ read32 s (at + 4) → next ≡ item_next s at
+    → r ≡ entries_end is_value s next n (at + 32 + k)
+    → ends r next ≡ ends (entries_end is_value s (item_next s at) (read32 s (at + 4)) (entries_at s at)) (item_next s at)
 ends_read s at k n next r a b c e = rw (e, a, b, c)
 
 module _ (is_value : Bytes → Bool) (home : Bytes → ℕ) (s : Bytes) (shard end at : ℕ) where
@@ -83,8 +84,8 @@ module _ (is_value : Bytes → Bool) (home : Bytes → ℕ) (s : Bytes) (shard e
           item-empty n = rw (le-leb (at + 32) end h, le-leb (item_next s at) end l, z, le-leb (read32 s at) max_key k, e, lt-leb 1 (read32 s (at + 4)) n)
 
           pub item-rest : 1 ≤ read32 s (at + 4)
-              → eqb (entries_end is_value s (item_next s at) (read32 s (at + 4)) (entries_at s at)) (item_next s at) ≡ item_ok is_value home s shard end at
+              → ends (entries_end is_value s (item_next s at) (read32 s (at + 4)) (entries_at s at)) (item_next s at) ≡ item_ok is_value home s shard end at
           unfolding item_ok every
           item-rest n =
               rw (le-leb (at + 32) end h, le-leb (item_next s at) end l, z, le-leb (read32 s at) max_key k, e, le-leb 1 (read32 s (at + 4)) n)
-              (sym (if-same (eqb (entries_end is_value s (item_next s at) (read32 s (at + 4)) (entries_at s at)) (item_next s at))))
+              (sym (if-same (ends (entries_end is_value s (item_next s at) (read32 s (at + 4)) (entries_at s at)) (item_next s at))))

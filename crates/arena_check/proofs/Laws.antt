@@ -45,13 +45,13 @@ module _ (key_at : ℕ → Bytes) (next : ℕ → ℕ) where
   before-end n k from at h = let e : n - k ≡ 0 = omega arith in ap (λ (m : ℕ). before key_at next m from at) e
 
 -- the keys that were compared, by the lengths that were read
-pub same_keys : (s : Bytes) (h p at m n : ℕ) (r : Bool) → m ≡ read32 s p → n ≡ read32 s at → r ≡ same (part s (p + h) m) (part s (at + h) n)
+pub same_keys : (s : Bytes) (h p at x y m n : ℕ) (r : Bool) → x ≡ p + h → y ≡ at + h → m ≡ read32 s p → n ≡ read32 s at → r ≡ same (part s x m) (part s y n)
     → same (key_in h s p) (key_in h s at) ≡ r
-same_keys s h p at m n r a b e = sym (rw (a, b) at e)
+same_keys s h p at x y m n r i j a b e = sym (rw (i, j, a, b) at e)
 
 -- the next place, by the lengths that were read
-pub next_place : (s : Bytes) (h f p m n : ℕ) → m ≡ read32 s p → n ≡ read32 s (p + f) → p + h + m + n ≡ next_in h f s p
-next_place s h f p m n a b = rw (a, b)
+pub next_place : (s : Bytes) (h f p x q m n : ℕ) → x ≡ p + f → m ≡ read32 s p → n ≡ read32 s x → q ≡ p + h + m + n → q ≡ next_in h f s p
+next_place s h f p x q m n i a b e = e ∙ rw (← i, ← a, ← b)
 
 -- ---- zeros, by the number that they spell
 

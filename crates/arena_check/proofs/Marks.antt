@@ -40,10 +40,10 @@ module _ (k : Bytes) where
   whole-read a b w x y o p q r e = e ∙ ap₂ mixed (q ∙ ap₂ mixed o p) r
 
 -- the mark of a key, by the length that was read
-pub mark-read : (s : Bytes) (h top at k r : ℕ) → k ≡ read32 s at → r ≡ marked_by (take (at + h + k - (at + h)) (drop (at + h) s))
+pub mark-read : (s : Bytes) (h top at x k r : ℕ) → x ≡ at + h → k ≡ read32 s at → r ≡ marked_by (take (x + k - x) (drop x s))
     → (bit_and (r / 65536) top ≡ mark_of top (key_in h s at)) × (bit_and (r / 65536) top ≤ top)
 unfolding part mark_of
-mark-read s h top at k r a e =
-    let n : at + h + k - (at + h) ≡ k = omega arith in
-    let w : r ≡ marked_by (key_in h s at) = rw (n, a) at e in
+mark-read s h top at x k r i a e =
+    let n : x + k - x ≡ k = omega arith in
+    let w : r ≡ marked_by (key_in h s at) = rw (n, i, a) at e in
     (ap (λ (i : ℕ). bit_and (i / 65536) top) w, and_le_r (r / 65536) top)

@@ -5,6 +5,7 @@ use Prim.Native.Nat.{ℕ, zero, suc, ◌+◌, ◌-◌, ◌≤◌, ◌<◌}
 use native.Mathlib.Omega.{arith}
 use native.Mathlib.Nat.{sub-zero}
 use mathlib.Core.Bool.{Bool, true, false, cond, true≢false}
+use Rattle.std.specs.Prelude.{Option, Some, None}
 use lib.Dec.{eqb, ltb}
 use borrow.Author.Tests.{eqb-true, eqb-false, ltb-true, ltb-false}
 use Rattle.buffer.specs.Cases.{by_test}
@@ -34,7 +35,7 @@ module _ (next : ℕ → ℕ) (ok : ℕ → Bool) (bound first n : ℕ) where
       }
 
   module _ (at i : ℕ) (w : Walked at i) where
-    pub walk-done : n ≤ i → passes next ok n first ≡ at
+    pub walk-done : n ≤ i → passes next ok n first ≡ Some at
     unfolding passes
     walk-done h = let e : n - i ≡ 0 = omega arith in w.left ∙ ap (λ (m : ℕ). passes next ok m at) e
 
@@ -47,7 +48,7 @@ module _ (next : ℕ → ℕ) (ok : ℕ → Bool) (bound first n : ℕ) where
       one_more : passes next ok n first ≡ passes next ok (suc (n - (i + 1))) at
       one_more = let e : n - i ≡ suc (n - (i + 1)) = omega arith in w.left ∙ ap (λ (m : ℕ). passes next ok m at) e
 
-      pub walk-bad : ok at ≡ false → passes next ok n first ≡ 0
+      pub walk-bad : ok at ≡ false → passes next ok n first ≡ None
       unfolding passes
       walk-bad q = one_more ∙ rw q
 
@@ -96,16 +97,16 @@ module _ (key_at : ℕ → Bytes) (next : ℕ → ℕ) (ok : ℕ → Bool) (firs
   apart-on i (suc n) at p a =
       let b : before key_at next i first at ≡ false =
       none_before 0 i at (λ t h. ap (λ (j : ℕ). same (key t) (key_at j)) p ∙ a t i (omega arith) (omega arith) (omega arith)) in
-      rw b (ap (λ (z : ℕ). cond (ok at) z 0) (apart-on (suc i) n (next at) (ap next p) (λ j k x y z. a j k (omega arith) y (omega arith))))
+      rw b (ap (λ (z : Option ℕ). cond (ok at) z None) (apart-on (suc i) n (next at) (ap next p) (λ j k x y z. a j k (omega arith) y (omega arith))))
 
   -- nothing comes of it, whatever the tests are
-  nothing : (a b : Bool) → ◌≡◌ {A = ℕ} (cond a (cond b 0 0) 0) 0
+  nothing : (a b : Bool) → ◌≡◌ {A = Option ℕ} (cond a (cond b None None) None) None
   nothing true true = refl
   nothing true false = refl
   nothing false b = refl
 
   -- nothing comes of it where one of the things is not ok
-  failed-on : (i n at : ℕ) → passes next ok n at ≡ 0 → walk key_at next ok first i n at ≡ 0
+  failed-on : (i n at : ℕ) → passes next ok n at ≡ None → walk key_at next ok first i n at ≡ None
   unfolding walk passes
   failed-on i zero at p = p
   failed-on i (suc n) at p =
@@ -113,17 +114,17 @@ module _ (key_at : ℕ → Bytes) (next : ℕ → ℕ) (ok : ℕ → Bool) (firs
       (λ q. rw (failed-on (suc i) n (next at) (rw q at p)) (nothing (ok at) (before key_at next i first at)))
       (λ q. rw q)
 
-  pub walk-failed : (n : ℕ) → passes next ok n first ≡ 0 → walk key_at next ok first 0 n first ≡ 0
+  pub walk-failed : (n : ℕ) → passes next ok n first ≡ None → walk key_at next ok first 0 n first ≡ None
   walk-failed n p = failed-on 0 n first p
 
-  twice-on : (i n at : ℕ) → at ≡ nth next i first → (w : Twice key (i + n)) → i ≤ w.other → walk key_at next ok first i n at ≡ 0
+  twice-on : (i n at : ℕ) → at ≡ nth next i first → (w : Twice key (i + n)) → i ≤ w.other → walk key_at next ok first i n at ≡ None
   unfolding walk nth
   twice-on i zero at p w l = absurd (let b = w.below in omega arith)
   twice-on i (suc n) at p w l =
       by_test (ltb i w.other)
       (λ t.
       let m : suc i + n ≡ i + suc n = omega arith in
-      let r : walk key_at next ok first (suc i) n (next at) ≡ 0 = twice-on (suc i) n (next at) (ap next p) (subst (λ (j : ℕ). Twice key j) (sym m) w)
+      let r : walk key_at next ok first (suc i) n (next at) ≡ None = twice-on (suc i) n (next at) (ap next p) (subst (λ (j : ℕ). Twice key j) (sym m) w)
       (omega (arith, ltb-true i w.other t)) in
       rw r (nothing (ok at) (before key_at next i first at)))
       (λ t.
@@ -134,12 +135,12 @@ module _ (key_at : ℕ → Bytes) (next : ℕ → ℕ) (ok : ℕ → Bool) (firs
       (p ∙ ap (λ (j : ℕ). nth next j first) (sym e)) ∙ w.equal) in
       rw b (nothing (ok at) true))
 
-  answered : (r : Bool) (n : ℕ) → Answers key r n n → walk key_at next ok first 0 n first ≡ cond r (passes next ok n first) 0
+  answered : (r : Bool) (n : ℕ) → Answers key r n n → walk key_at next ok first 0 n first ≡ cond r (passes next ok n first) None
   answered true n a = unfold nth in apart-on 0 n first refl (λ j k x y z. a j k (omega arith) y (omega arith))
   answered false n a =
       unfold nth in twice-on 0 n first refl
       (record { one = a.one; other = a.other; order = a.order; below = let b = a.below in omega arith; equal = a.equal }) (omega arith)
 
   -- what an answer on the keys makes of it
-  pub walk-answer : (r b : Bool) (n : ℕ) → r ≡ b → Answers key r n n → walk key_at next ok first 0 n first ≡ cond b (passes next ok n first) 0
+  pub walk-answer : (r b : Bool) (n : ℕ) → r ≡ b → Answers key r n n → walk key_at next ok first 0 n first ≡ cond b (passes next ok n first) None
   walk-answer r b n e a = answered b n (subst (λ (t : Bool). Answers key t n n) e a)

@@ -1,6 +1,6 @@
 -- Keys of things that stand one after the other, numbered from 0 on: none twice, one among the first, and the chains of those that share a mark.
 -- Assumes nothing: these are definitions.
-use Rattle.std.specs.Prelude.{◌≡◌, ℕ, ◌+◌, ◌-◌, ◌^◌, ◌≤◌, ◌<◌, Bool, true, false, List, length, get_or}
+use Rattle.std.specs.Prelude.{◌≡◌, ℕ, ◌+◌, ◌-◌, ◌^◌, ◌≤◌, ◌<◌, Bool, true, false, Option, Some, None, List, length, get_or}
 use Rattle.buffer.specs.Same.{Bytes, same}
 use Rattle.buffer.specs.Field.{read32}
 use Rattle.arena_check.specs.Walk.{nth}
@@ -66,8 +66,7 @@ pub record Tables (top m : ℕ) (last prev place : List ℕ) : Type 0 where
   pub linked : m ≤ length prev
   pub placed : m ≤ length place
 
--- what is found of the first m of n things from `first` on: r is where they end, or 0
-pub record Chained (h f : ℕ) (s : Bytes) (first m n r : ℕ) : Type 0 where
-  pub refused : r ≡ 0 → Twice (keys_from h f s first) n
-  pub place : 0 < r → r ≡ nth (next_in h f s) m first
-  pub apart : 0 < r → Apart (keys_from h f s first) m n
+-- what is found of the first m of n things from `first` on: two of the n have the same key, or this is where the m end, and each is apart from those behind it
+abbrev pub Chained : ℕ → ℕ → Bytes → ℕ → ℕ → ℕ → Option ℕ → Type 0
+Chained h f s first m n None = Twice (keys_from h f s first) n
+Chained h f s first m n (Some e) = (e ≡ nth (next_in h f s) m first) × Apart (keys_from h f s first) m n

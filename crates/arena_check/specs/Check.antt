@@ -1,6 +1,7 @@
 -- The image check by places: what the code of this crate tests, in its order. Law.antt shows that it is the crate arena's `is_image`.
 -- Assumes nothing: these are definitions.
-use Rattle.std.specs.Prelude.{ℕ, zero, suc, ◌+◌, ◌*◌, Bool, true, [], ◌∷◌, length, drop, eqb, leb}
+use Rattle.std.specs.Prelude.{ℕ, zero, suc, ◌+◌, ◌*◌, Bool, true, [], ◌∷◌, length, drop, eqb, leb, Option, Some}
+use Rattle.std.specs.Option.{option_eq}
 use Rattle.buffer.specs.Same.{Bytes}
 use Rattle.buffer.specs.Field.{read32}
 use Rattle.buffer.specs.Part.{part}
@@ -46,14 +47,18 @@ item_next s at = next_in 32 24 s at
 unfoldable pub item_within : Bytes → ℕ → ℕ → Bool
 item_within s end at = every (leb (at + 32) end ∷ leb (item_next s at) end ∷ [])
 
+-- they end, and there
+abbrev pub ends : Option ℕ → ℕ → Bool
+ends e at = option_eq eqb e (Some at)
+
 module _ (is_value : Bytes → Bool) where
   -- an entry stands there, within `end`
   unfoldable pub entry_ok : Bytes → ℕ → ℕ → Bool
   entry_ok s end at =
       every (leb (at + 16) end ∷ leb (entry_next s at) end ∷ all_zero (part s (at + 8) 8) ∷ leb (read32 s at) max_command_key ∷ is_value (value_at s at) ∷ [])
 
-  -- where n entries end that stand from `first` on, within `end`; 0 where they do not, or a command key is there twice
-  unfoldable pub entries_end : Bytes → ℕ → ℕ → ℕ → ℕ
+  -- where n entries end that stand from `first` on, within `end`, where they do and no command key is there twice
+  unfoldable pub entries_end : Bytes → ℕ → ℕ → ℕ → Option ℕ
   entries_end s end n first = walk (command_at s) (entry_next s) (entry_ok s end) first 0 n first
 
   -- `home` is the number of a key's shard
@@ -68,12 +73,12 @@ module _ (is_value : Bytes → Bool) where
         ∷ leb (read32 s at) max_key
         ∷ eqb (home (key_at s at)) shard
         ∷ leb 1 (read32 s (at + 4))
-        ∷ eqb (entries_end s (item_next s at) (read32 s (at + 4)) (entries_at s at)) (item_next s at)
+        ∷ ends (entries_end s (item_next s at) (read32 s (at + 4)) (entries_at s at)) (item_next s at)
         ∷ []
         )
 
-    -- where n items end that stand from byte 16 on, within `end`; 0 where they do not, or a key is there twice
-    unfoldable pub items_end : Bytes → ℕ → ℕ → ℕ → ℕ
+    -- where n items end that stand from byte 16 on, within `end`, where they do and no key is there twice
+    unfoldable pub items_end : Bytes → ℕ → ℕ → ℕ → Option ℕ
     items_end s shard end n = walk (key_at s) (item_next s) (item_ok s shard end) 16 0 n 16
 
     -- the bytes are those of the shard of that number, which holds so many keys
@@ -84,7 +89,7 @@ module _ (is_value : Bytes → Bool) where
         ∷ leb (16 + read32 s 4) (length s)
         ∷ all_zero (part s 8 8)
         ∷ all_zero (drop (16 + read32 s 4) s)
-        ∷ eqb (items_end s shard (16 + read32 s 4) (read32 s 0)) (16 + read32 s 4)
+        ∷ ends (items_end s shard (16 + read32 s 4) (read32 s 0)) (16 + read32 s 4)
         ∷ []
         )
 

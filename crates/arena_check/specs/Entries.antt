@@ -1,5 +1,5 @@
 -- The check of entries finds exactly the entries that may be stored: both ways. Assumes bytes (below 256) and fewer than 2^32 of them.
-use Rattle.std.specs.Prelude.{◌≡◌, ℕ, ◌+◌, ◌^◌, ◌≤◌, ◌<◌, Bool, false, List, [], ◌∷◌, ◌++◌}
+use Rattle.std.specs.Prelude.{◌≡◌, ℕ, ◌+◌, ◌^◌, ◌≤◌, ◌<◌, Bool, false, Some, List, [], ◌∷◌, ◌++◌}
 use Rattle.std.proofs.Math.Path.{refl, sym, ap, ap₂}
 use Rattle.std.proofs.Common.{◌∙◌, subst, append_assoc}
 use native.Mathlib.Omega.{arith}
@@ -141,11 +141,11 @@ module _ (is_value : Bytes → Bool) (s : Bytes) (end : ℕ) where
     pub good : All (GoodEntry is_value) entries
 
   -- what is walked to its end is such entries
-  pub entries-found : Octets s → end ≤ length s → (n first e : ℕ) → entries_end is_value s end n first ≡ e → 0 < e → EntriesThere first e n
+  pub entries-found : Octets s → end ≤ length s → (n first e : ℕ) → entries_end is_value s end n first ≡ Some e → EntriesThere first e n
   unfolding entries_end enc_entries
-  entries-found b h n first e w p =
+  entries-found b h n first e w =
       let f = walk-found enc_entry (λ en. en.command) (GoodEntry is_value) s (entry_ok is_value s end) (entry_next s) (command_at s)
-      (entry_found b h) first n e w p in
+      (entry_found b h) first n e w in
       let g =
       run-bytes enc_entry (λ en. en.command) (GoodEntry is_value) s (entry_ok is_value s end) (entry_next s) (command_at s) enc_entries refl
       (λ x xs. refl) first e f.things f.run in
@@ -161,7 +161,7 @@ module _ (is_value : Bytes → Bool) (s : Bytes) (end : ℕ) where
 
   -- and such entries are walked to their end
   pub entries-pass : length s < 256 ^ 4 → (A B : Bytes) (ens : List Entry) → s ≡ A ++ (enc_entries ens ++ B) → All (GoodEntry is_value) ens → DistinctCommands ens
-      → length A + entry_bytes ens ≤ end → entries_end is_value s end (length ens) (length A) ≡ length A + entry_bytes ens
+      → length A + entry_bytes ens ≤ end → entries_end is_value s end (length ens) (length A) ≡ Some (length A + entry_bytes ens)
   unfolding entries_end enc_entries
   entries-pass l A B ens e g d h =
       let n = length-entries ens in
@@ -171,4 +171,4 @@ module _ (is_value : Bytes → Bool) (s : Bytes) (end : ℕ) where
       (omega arith) in
       found-walk enc_entry (λ en. en.command) (GoodEntry is_value) s (entry_ok is_value s end) (entry_next s) (command_at s) (length A)
       (length A + length (enc_entries ens)) ens r (commands-differ ens d)
-      ∙ ap (λ (i : ℕ). length A + i) n
+      ∙ ap (λ (i : ℕ). Some (length A + i)) n

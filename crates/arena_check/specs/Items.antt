@@ -1,5 +1,5 @@
 -- The check of items finds exactly the well-formed items: both ways. Assumes bytes (below 256) and fewer than 2^32 of them.
-use Rattle.std.specs.Prelude.{◌≡◌, Bool, false}
+use Rattle.std.specs.Prelude.{◌≡◌, Bool, false, Some}
 use Rattle.std.proofs.Math.Path.{refl, sym, ap, ap₂, subst}
 use Rattle.std.proofs.Common.{◌∙◌}
 use Prim.Native.Nat.{ℕ, ◌+◌, ◌^◌, ◌≤◌, ◌<◌}
@@ -31,6 +31,7 @@ use Rattle.arena.specs.Tests.{Fits}
 use Rattle.arena.proofs.Tests.{every-yes, yes-every}
 use Rattle.arena_check.specs.Check.{key_at, entries_at, item_next, entries_end, item_ok, items_end}
 use Rattle.arena_check.specs.Entries.{GoodEntry, EntriesThere, entries-found, entries-pass}
+use Rattle.arena_check.specs.Ends.{ends-true, true-ends}
 use Rattle.arena_check.specs.There.{item-head-there, item-head-zeros, read_behind, read_first, part-behind}
 use Rattle.arena_check.specs.Walk.{walk, Differ, Stands, walk-found, run-good, run-bytes, bytes_run, found-walk}
 
@@ -90,8 +91,7 @@ module _ (is_value : Bytes → Bool) (p : Setup) (s : Bytes) (shard end : ℕ) w
       let lk : length (key_at s at) ≡ read32 s at = length_part s (at + 32) (read32 s at) (omega arith) in
       let some-entry : 1 ≤ read32 s (at + 4) = leb-true _ _ w.1.1.1.1.1.0 in
       let g : EntriesThere is_value s (item_next s at) (entries_at s at) (item_next s at) (read32 s (at + 4)) =
-      entries-found is_value s (item_next s at) b (omega arith) (read32 s (at + 4)) (entries_at s at) (item_next s at) (eqb-true _ _ w.1.1.1.1.1.1.0)
-      (omega arith) in
+      entries-found is_value s (item_next s at) b (omega arith) (read32 s (at + 4)) (entries_at s at) (item_next s at) (ends-true _ _ w.1.1.1.1.1.1.0) in
       let m : entry_bytes g.entries ≡ read32 s (at + 24) = omega (arith, g.ends) in
       let c = g.count in
       let short : length (key_at s at) ≤ max_key = rw lk (leb-true _ _ w.1.1.1.0) in (
@@ -122,7 +122,7 @@ module _ (is_value : Bytes → Bool) (p : Setup) (s : Bytes) (shard end : ℕ) w
 
   -- its entries are walked to its end
   own-entries : length s < 256 ^ 4 → (A B : Bytes) (it : Item) → s ≡ A ++ (enc_item it ++ B) → GoodItem it
-      → entries_end is_value s (length A + length (enc_item it)) (length it.entries) (length A + (32 + length it.key)) ≡ length A + length (enc_item it)
+      → entries_end is_value s (length A + length (enc_item it)) (length it.entries) (length A + (32 + length it.key)) ≡ Some (length A + length (enc_item it))
   unfolding enc_item
   own-entries l A B it e g =
       let H : Bytes = item_head (length it.key) (length it.entries) it.epoch it.expiry (entry_bytes it.entries) in
@@ -133,7 +133,7 @@ module _ (is_value : Bytes → Bool) (p : Setup) (s : Bytes) (shard end : ℕ) w
       let there = entries-pass is_value s (length A + length (enc_item it)) l F B it.entries split
       (storable-entries it.key it.entries g.fits.entries) g.sound.commands (omega arith) in
       let to : length F + entry_bytes it.entries ≡ length A + length (enc_item it) = omega arith in
-      ap (entries_end is_value s (length A + length (enc_item it)) (length it.entries)) (sym n) ∙ there ∙ to
+      ap (entries_end is_value s (length A + length (enc_item it)) (length it.entries)) (sym n) ∙ there ∙ ap Some to
 
   pub item-passes : length s < 256 ^ 4 → (A B : Bytes) (it : Item) → s ≡ A ++ (enc_item it ++ B) → GoodItem it → length A + length (enc_item it) ≤ end
       → ItemStands (length A) it
@@ -153,8 +153,8 @@ module _ (is_value : Bytes → Bool) (p : Setup) (s : Bytes) (shard end : ℕ) w
       let first : entries_at s (length A) ≡ length A + (32 + length it.key) = omega arith in
       let short = key-short it.key it.entries g.sound.some-entry g.fits.entries in
       let some-entry = g.sound.some-entry in
-      let ends : entries_end is_value s (item_next s (length A)) (read32 s (length A + 4)) (entries_at s (length A)) ≡ item_next s (length A) =
-      (λ i. entries_end is_value s (next i) (c i) (first i)) ∙ own-entries l A B it e g ∙ sym next in
+      let ends : entries_end is_value s (item_next s (length A)) (read32 s (length A + 4)) (entries_at s (length A)) ≡ Some (item_next s (length A)) =
+      (λ i. entries_end is_value s (next i) (c i) (first i)) ∙ own-entries l A B it e g ∙ ap Some (sym next) in
       record {
         passes = yes-every _ (
           le-leb (length A + 32) end (omega arith),
@@ -166,7 +166,7 @@ module _ (is_value : Bytes → Bool) (p : Setup) (s : Bytes) (shard end : ℕ) w
                 le-leb (read32 s (length A)) max_key (omega arith),
                 (
                   eq-eqb (p.shard_of (key_at s (length A))) shard (ap p.shard_of key ∙ g.sound.home),
-                  (le-leb 1 (read32 s (length A + 4)) (omega arith), (eq-eqb _ (item_next s (length A)) ends, tt)),
+                  (le-leb 1 (read32 s (length A + 4)) (omega arith), (true-ends _ (item_next s (length A)) ends, tt)),
                 ),
               ),
             ),
@@ -209,10 +209,10 @@ module _ (is_value : Bytes → Bool) (p : Setup) (s : Bytes) (shard end : ℕ) w
   differ-keys (it ∷ row) d = (differ-absent it.key row d.0, differ-keys row d.1)
 
   -- what is walked to its end is such items
-  pub items-found : Octets s → end ≤ length s → (n e : ℕ) → items_end is_value p.shard_of s shard end n ≡ e → 0 < e → ItemsThere e n
+  pub items-found : Octets s → end ≤ length s → (n e : ℕ) → items_end is_value p.shard_of s shard end n ≡ Some e → ItemsThere e n
   unfolding items_end enc_items
-  items-found b h n e w q =
-      let f = walk-found enc_item (λ i. i.key) GoodItem s (item_ok is_value p.shard_of s shard end) (item_next s) (key_at s) (item-found b h) 16 n e w q in
+  items-found b h n e w =
+      let f = walk-found enc_item (λ i. i.key) GoodItem s (item_ok is_value p.shard_of s shard end) (item_next s) (key_at s) (item-found b h) 16 n e w in
       let g =
       run-bytes enc_item (λ i. i.key) GoodItem s (item_ok is_value p.shard_of s shard end) (item_next s) (key_at s) enc_items refl (λ x xs. refl) 16 e
       f.things f.run in
@@ -228,7 +228,7 @@ module _ (is_value : Bytes → Bool) (p : Setup) (s : Bytes) (shard end : ℕ) w
 
   -- and such items are walked to their end
   pub items-pass : length s < 256 ^ 4 → (A B : Bytes) (row : Row) → length A ≡ 16 → s ≡ A ++ (enc_items row ++ B) → All GoodItem row → Distinct row
-      → 16 + row_bytes row ≤ end → items_end is_value p.shard_of s shard end (length row) ≡ 16 + row_bytes row
+      → 16 + row_bytes row ≤ end → items_end is_value p.shard_of s shard end (length row) ≡ Some (16 + row_bytes row)
   unfolding items_end enc_items
   items-pass l A B row a e g d h =
       let n = length-items row in
@@ -239,5 +239,5 @@ module _ (is_value : Bytes → Bool) (p : Setup) (s : Bytes) (shard end : ℕ) w
       let walked =
       found-walk enc_item (λ i. i.key) GoodItem s (item_ok is_value p.shard_of s shard end) (item_next s) (key_at s) (length A)
       (length A + length (enc_items row)) row r (keys-differ row d) in
-      subst (λ (i : ℕ). walk (key_at s) (item_next s) (item_ok is_value p.shard_of s shard end) i 0 (length row) i ≡ i + length (enc_items row)) a walked
-      ∙ ap (λ (i : ℕ). 16 + i) n
+      subst (λ (i : ℕ). walk (key_at s) (item_next s) (item_ok is_value p.shard_of s shard end) i 0 (length row) i ≡ Some (i + length (enc_items row))) a walked
+      ∙ ap (λ (i : ℕ). Some (16 + i)) n

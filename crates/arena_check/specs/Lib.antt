@@ -1,5 +1,6 @@
 pub mod Walk
 pub mod Check
+pub mod Ends
 pub mod There
 pub mod Entries
 pub mod Items

@@ -1,5 +1,5 @@
 -- The check of a shard finds exactly the bytes that encode a well-formed row: both ways. Assumes bytes (below 256) and fewer than 2^32 of them.
-use Rattle.std.specs.Prelude.{◌≡◌, Bool, [], ◌∷◌, ◌++◌}
+use Rattle.std.specs.Prelude.{◌≡◌, Bool, [], ◌∷◌, ◌++◌, Some}
 use Rattle.std.proofs.Math.Path.{sym, ap, ap₂}
 use Rattle.std.proofs.Common.{◌∙◌, subst, append_assoc, length-drop}
 use Prim.Native.Nat.{ℕ, ◌+◌, ◌-◌, ◌^◌, ◌≤◌, ◌<◌}
@@ -7,7 +7,7 @@ use native.Mathlib.Omega.{arith}
 use Rattle.std.proofs.Math.Bool.{true}
 use Rattle.std.proofs.Math.ListN.{length, take, drop, length-append}
 use Rattle.std.proofs.Math.Seq.{drop_at}
-use borrow.Author.Tests.{leb-true, le-leb, eqb-true, eq-eqb}
+use borrow.Author.Tests.{leb-true, le-leb}
 use Rattle.buffer.specs.Same.{Bytes}
 use Rattle.buffer.specs.Field.{Octets, read32}
 use Rattle.buffer.specs.FieldLaws.{read_below}
@@ -26,6 +26,7 @@ use Rattle.arena.proofs.Read.{head_first, head-second, shard-read}
 use Rattle.arena.specs.Tests.{Fits, FineRow}
 use Rattle.arena.proofs.Tests.{every-yes, yes-every}
 use Rattle.arena_check.specs.Check.{items_end, shard_ok}
+use Rattle.arena_check.specs.Ends.{ends-true, true-ends}
 use Rattle.arena_check.specs.Items.{GoodItem, ItemsThere, items-found, items-pass}
 use Rattle.arena_check.specs.There.{head-there, head-zeros}
 
@@ -60,7 +61,7 @@ module _ (is_value : Bytes → Bool) (p : Setup) (s : Bytes) (shard : ℕ) where
       let end : ℕ = 16 + used in
       let fits : end ≤ length s = leb-true _ _ w.1.0 in
       let g : ItemsThere is_value p s shard end end (read32 s 0) =
-      items-found is_value p s shard end b fits (read32 s 0) end (eqb-true _ _ w.1.1.1.1.0) (omega arith) in
+      items-found is_value p s shard end b fits (read32 s 0) end (ends-true _ _ w.1.1.1.1.0) in
       let m : row_bytes g.row ≡ used = omega (arith, g.ends) in
       let c = g.count in
       let few : read32 s 0 ≤ p.keys = leb-true _ _ w.0 in
@@ -109,7 +110,7 @@ module _ (is_value : Bytes → Bool) (p : Setup) (s : Bytes) (shard : ℕ) where
       let m : length (H ++ enc_items row) ≡ 16 + used = length-append H (enc_items row) ∙ ap₂ ◌+◌ (length-head (length row) used) (length-items row) in
       let r : all_zero (drop (16 + used) s) ≡ true =
       ap all_zero (ap (drop (16 + used)) e₂ ∙ drop_at (H ++ enc_items row) Z (16 + used) m) ∙ zeros-pass (length s - (16 + used)) in
-      let ends : items_end is_value p.shard_of s shard (16 + used) (length row) ≡ 16 + used =
+      let ends : items_end is_value p.shard_of s shard (16 + used) (length row) ≡ Some (16 + used) =
       items-pass is_value p s shard (16 + used) l H Z row (length-head (length row) used) e
       (both-good (16 + used) row g.fine.sound.items g.fine.fits) g.fine.sound.keys (omega arith) in
       let keys = g.fine.sound.few in
@@ -121,7 +122,7 @@ module _ (is_value : Bytes → Bool) (p : Setup) (s : Bytes) (shard : ℕ) where
             z,
             (
               ap (λ (i : ℕ). all_zero (drop (16 + i) s)) u ∙ r,
-              (eq-eqb _ (16 + read32 s 4) ((λ i. items_end is_value p.shard_of s shard (16 + u i) (c i)) ∙ ends ∙ ap (λ (i : ℕ). 16 + i) (sym u)), tt),
+              (true-ends _ (16 + read32 s 4) ((λ i. items_end is_value p.shard_of s shard (16 + u i) (c i)) ∙ ends ∙ ap (λ (i : ℕ). Some (16 + i)) (sym u)), tt),
             ),
           ),
         ),

@@ -1,9 +1,9 @@
 -- A run of things, one after the other, none with another's key: how it is walked, and that the walk finds exactly the runs. For entries and for
 -- items. Assumes nothing.
-use Rattle.std.specs.Prelude.{◌≡◌, Bool, true, false, cond}
+use Rattle.std.specs.Prelude.{◌≡◌, Bool, true, false, cond, Option, Some, None}
 use Rattle.std.proofs.Math.Path.{refl, ap, subst}
 use Rattle.std.proofs.Common.{sym, ◌∙◌, zero-add, true≢false}
-use Prim.Native.Nat.{ℕ, zero, suc, ◌+◌, ◌≤◌, ◌<◌}
+use Prim.Native.Nat.{ℕ, zero, suc, ◌+◌, ◌≤◌}
 use native.Mathlib.Omega.{arith}
 use mathlib.Core.List.{List, [], ◌∷◌, ◌++◌, append_assoc}
 use Rattle.std.proofs.Math.ListN.{length, length-append}
@@ -21,10 +21,10 @@ unfoldable pub nth : (ℕ → ℕ) → ℕ → ℕ → ℕ
 nth next zero a = a
 nth next (suc k) a = next (nth next k a)
 
--- where n things end that stand from `at` on; 0 where one of them is not ok
-unfoldable pub passes : (ℕ → ℕ) → (ℕ → Bool) → ℕ → ℕ → ℕ
-passes next ok zero at = at
-passes next ok (suc n) at = cond (ok at) (passes next ok n (next at)) 0
+-- where n things end that stand from `at` on, where each of them is ok
+unfoldable pub passes : (ℕ → ℕ) → (ℕ → Bool) → ℕ → ℕ → Option ℕ
+passes next ok zero at = Some at
+passes next ok (suc n) at = cond (ok at) (passes next ok n (next at)) None
 
 module _ (key_at : ℕ → Bytes) (next : ℕ → ℕ) where
   -- whether one of the n things from `from` on has the key of the one at `at`
@@ -32,10 +32,18 @@ module _ (key_at : ℕ → Bytes) (next : ℕ → ℕ) where
   before zero from at = false
   before (suc n) from at = cond (same (key_at from) (key_at at)) true (before n (next from) at)
 
-  -- where n things more end that stand from `at` on, behind i others from `first` on; 0 where one of them is not ok or has the key of one before it
-  unfoldable pub walk : (ℕ → Bool) → ℕ → ℕ → ℕ → ℕ → ℕ
-  walk ok first i zero at = at
-  walk ok first i (suc n) at = cond (ok at) (cond (before i first at) 0 (walk ok first (suc i) n (next at))) 0
+  -- where n things more end that stand from `at` on, behind i others from `first` on, where each of them is ok and has the key of none before it
+  unfoldable pub walk : (ℕ → Bool) → ℕ → ℕ → ℕ → ℕ → Option ℕ
+  walk ok first i zero at = Some at
+  walk ok first i (suc n) at = cond (ok at) (cond (before i first at) None (walk ok first (suc i) n (next at))) None
+
+-- ---- what an answer says
+
+pub some-is : {a b : ℕ} → Some a ≡ Some b → a ≡ b
+some-is e = cc
+
+pub none-some : {a : ℕ} → None ≡ Some a → ⊥
+none-some e = let z : ◌≡◌ {A = ℕ} 0 1 = cc in omega arith
 
 -- ---- keys
 
@@ -116,33 +124,33 @@ module _ {X : Type 0} (enc : X → Bytes) (key : X → Bytes) (Good : X → Type
 
   -- a walk that goes on behind a run
   walk-on : ((at : ℕ) → ok at ≡ true → (x : X) × Stands at x) → (first i n at e : ℕ) (done : List X) → length done ≡ i → Run first done at → Differ key done
-      → walk key_at next ok first i n at ≡ e → 0 < e → Found first e (i + n)
+      → walk key_at next ok first i n at ≡ Some e → Found first e (i + n)
   unfolding walk
-  walk-on f first i zero at e done c r d w p =
-      record { things = done; count = omega arith; run = subst (Run first done) w r; differ = d }
-  walk-on f first i (suc n) at e done c r d w p =
+  walk-on f first i zero at e done c r d w =
+      record { things = done; count = omega arith; run = subst (Run first done) (some-is w) r; differ = d }
+  walk-on f first i (suc n) at e done c r d w =
       by_test (ok at)
       (λ q.
       by_test (before key_at next i first at)
-      (λ b. absurd (let z : 0 ≡ e = rw (q, b) at w in omega arith))
+      (λ b. let z : None ≡ Some e = rw (q, b) at w in absurd (none-some z))
       (λ b.
       let g = f at q in
       let m : suc i + n ≡ i + suc n = omega arith in
       subst (Found first e) m
       (walk-on f first (suc i) n (next at) e (done ++ (g.0 ∷ [])) (length-append done (g.0 ∷ []) ∙ omega arith) (run_more first at done g.0 r g.1)
-      (differ-more key done g.0 d (others first at i done g.0 c r b g.1.keyed)) (rw (q, b) at w) p)))
-      (λ q. absurd (let z : 0 ≡ e = rw q at w in omega arith))
+      (differ-more key done g.0 d (others first at i done g.0 c r b g.1.keyed)) (rw (q, b) at w))))
+      (λ q. let z : None ≡ Some e = rw q at w in absurd (none-some z))
 
   -- a walk that ends found a run
-  pub walk-found : ((at : ℕ) → ok at ≡ true → (x : X) × Stands at x) → (first n e : ℕ) → walk key_at next ok first 0 n first ≡ e → 0 < e → Found first e n
-  walk-found f first n e w p = subst (Found first e) (zero-add n) (walk-on f first 0 n first e [] refl refl tt w p)
+  pub walk-found : ((at : ℕ) → ok at ≡ true → (x : X) × Stands at x) → (first n e : ℕ) → walk key_at next ok first 0 n first ≡ Some e → Found first e n
+  walk-found f first n e w = subst (Found first e) (zero-add n) (walk-on f first 0 n first e [] refl refl tt w)
 
   -- ---- a run is found
 
   on-walk : (first at e : ℕ) (done todo : List X) → Run first done at → Run at todo e → Differ key (done ++ todo)
-      → walk key_at next ok first (length done) (length todo) at ≡ e
+      → walk key_at next ok first (length done) (length todo) at ≡ Some e
   unfolding walk
-  on-walk first at e done [] r t d = t
+  on-walk first at e done [] r t d = ap Some t
   on-walk first at e done (x ∷ todo) r t d =
       let k = t.0.keyed in
       let w : All (λ y. same (key y) (key_at at) ≡ false) done =
@@ -153,7 +161,7 @@ module _ {X : Type 0} (enc : X → Bytes) (key : X → Bytes) (Good : X → Type
       ∙ on-walk first (next at) e (done ++ (x ∷ [])) todo (run_more first at done x r t.0) t.1 (rw append_assoc d))
 
   -- a run with no key twice is walked to its end
-  pub found-walk : (first e : ℕ) (xs : List X) → Run first xs e → Differ key xs → walk key_at next ok first 0 (length xs) first ≡ e
+  pub found-walk : (first e : ℕ) (xs : List X) → Run first xs e → Differ key xs → walk key_at next ok first 0 (length xs) first ≡ Some e
   found-walk first e xs r d = on-walk first first e [] xs refl r d
 
   -- ---- the bytes of a run, where `enc_all` writes one thing after the other

@@ -3,6 +3,7 @@
 #![tactic(auto)]
 
 ghost use Rattle.std.specs.Prelude.{◌≡◌, ℕ, ◌+◌, ◌*◌, ◌-◌, ◌%◌, ◌^◌, ◌≤◌, ◌<◌, true, false, length};
+ghost use Rattle.std.proofs.Common.{arith};
 ghost use Rattle.buffer.specs.Field.{read32};
 ghost use Rattle.buffer.specs.Part.{part};
 ghost use Rattle.buffer.specs.Same.{Bytes, same};
@@ -27,6 +28,7 @@ fn other_tails(s: &[u8], a: usize, b: usize, n: usize) -> bool
 }
 
 // Whether two ranges of s have the same bytes.
+// Kept: not `==` alone, since keys that share a mark mostly differ at their end, which is looked at first.
 fn same_part(s: &[u8], a: usize, n: usize, b: usize, m: usize) -> bool
     requires { (a + n ≤ length s.now) × (b + m ≤ length s.now) }
     ensures { result ≡ same (part s.now a n) (part s.now b m) }
@@ -42,60 +44,100 @@ fn same_part(s: &[u8], a: usize, n: usize, b: usize, m: usize) -> bool
     buffer::same(&s[a..e], &s[b..d])
 }
 
-// Where the thing at p ends. A thing has a head of h bytes, its key's length at the head's start and the length of what follows its key at f.
-fn next_place(s: &[u8], h: usize, f: usize, p: usize) -> usize
-    requires { (next_in h f s.now p ≤ length s.now) × (4 ≤ h) × (f + 4 ≤ h) × (length s.now < 2 ^ 32) }
-    ensures { result ≡ next_in h f s.now p }
-{
-    let key = buffer::read_u32(s, p) as usize;
-    let rest = buffer::read_u32(s, p + f) as usize;
-    p + h + key + rest
+// What stands one after the other: a thing has a head of HEAD bytes, its key's length at the head's start and the length of what follows its key at REST.
+trait Thing {
+    const HEAD: usize;
+
+    const REST: usize;
+
+    ghost HEAD: { ℕ };
+
+    ghost REST: { ℕ };
+
+    // Both lengths are in the head, and that of the key comes first.
+    ghost in_head: { (4 ≤ HEAD) × (REST + 4 ≤ HEAD) };
 }
 
-// Whether one of the n things from `from` on has the key of the thing at `at`; h and f as above.
-fn key_before(s: &[u8], h: usize, f: usize, n: usize, from: usize, at: usize) -> bool
-    requires { ((k : ℕ) → k < n → next_in h f s.now (nth (next_in h f s.now) k from) ≤ length s.now)
-        × (next_in h f s.now at ≤ length s.now) × (4 ≤ h) × (f + 4 ≤ h) × (length s.now < 2 ^ 32) }
-    ensures { result ≡ before (key_in h s.now) (next_in h f s.now) n from at }
+// An entry, under its command key.
+struct Entry;
+
+impl Thing for Entry {
+    const HEAD: usize = 16;
+
+    const REST: usize = 4;
+
+    ghost HEAD = { 16 };
+
+    ghost REST = { 4 };
+
+    ghost in_head = { (omega arith, omega arith) };
+}
+
+// An item, under its key.
+struct Item;
+
+impl Thing for Item {
+    const HEAD: usize = 32;
+
+    const REST: usize = 24;
+
+    ghost HEAD = { 32 };
+
+    ghost REST = { 24 };
+
+    ghost in_head = { (omega arith, omega arith) };
+}
+
+// Where the thing at p ends.
+fn next_place<T: Thing>(s: &[u8], p: usize) -> usize
+    requires { (next_in T.HEAD T.REST s.now p ≤ length s.now) × (length s.now < 2 ^ 32) }
+    ensures { result ≡ next_in T.HEAD T.REST s.now p }
 {
-    let key = at + h;
+    let key = buffer::read_u32(s, p) as usize;
+    let rest = buffer::read_u32(s, p + T::REST) as usize;
+    p + T::HEAD + key + rest
+}
+
+// Whether one of the n things from `from` on has the key of the thing at `at`.
+fn key_before<T: Thing>(s: &[u8], n: usize, from: usize, at: usize) -> bool
+    requires { ((k : ℕ) → k < n → next_in T.HEAD T.REST s.now (nth (next_in T.HEAD T.REST s.now) k from) ≤ length s.now)
+        × (next_in T.HEAD T.REST s.now at ≤ length s.now) × (length s.now < 2 ^ 32) }
+    ensures { result ≡ before (key_in T.HEAD s.now) (next_in T.HEAD T.REST s.now) n from at }
+{
+    let key = at + T::HEAD;
     let len = buffer::read_u32(s, at) as usize;
     let mut p = from;
-    let mut k = 0;
-    while k < n {
+    for _ in 0..n {
         let m = buffer::read_u32(s, p) as usize;
-        if same_part(s, p + h, m, key, len) {
+        if same_part(s, p + T::HEAD, m, key, len) {
             return true;
         }
-        p = p + h + m + buffer::read_u32(s, p + f) as usize;
-        k += 1;
+        p = p + T::HEAD + m + buffer::read_u32(s, p + T::REST) as usize;
     }
     false
 }
 
 // Whether no two of the n things from `first` on have the same key, where they are few: each is compared with all before it.
-fn few_distinct(s: &[u8], h: usize, f: usize, n: usize, first: usize) -> bool
-    requires { Stand h f s.now n first }
-    ensures { Answers (keys_from h f s.now first) result n n }
+fn few_distinct<T: Thing>(s: &[u8], n: usize, first: usize) -> bool
+    requires { Stand T.HEAD T.REST s.now n first }
+    ensures { Answers (keys_from T.HEAD T.REST s.now first) result n n }
 {
     let mut at = first;
-    let mut i = 0;
-    while i < n {
-        if key_before(s, h, f, i, first, at) {
+    for i in 0..n {
+        if key_before::<T>(s, i, first, at) {
             return false;
         }
-        at = next_place(s, h, f, at);
-        i += 1;
+        at = next_place::<T>(s, at);
     }
     true
 }
 
 // The hash of the key of the thing at `at`.
-fn key_hash(s: &[u8], h: usize, at: usize) -> u64
-    requires { (4 ≤ h) × (at + h + read32 s.now at ≤ length s.now) × (length s.now < 2 ^ 32) }
-    ensures { result ≡ sip_hash13 (key_in h s.now at) }
+fn key_hash<T: Thing>(s: &[u8], at: usize) -> u64
+    requires { (at + T.HEAD + read32 s.now at ≤ length s.now) × (length s.now < 2 ^ 32) }
+    ensures { result ≡ sip_hash13 (key_in T.HEAD s.now at) }
 {
-    let from = at + h;
+    let from = at + T::HEAD;
     let to = from + buffer::read_u32(s, at) as usize;
     siphash::sip_hash_13(&s[from..to])
 }
@@ -135,56 +177,44 @@ pub fn marked_by(key: &[u8]) -> u64
 }
 
 // The mark of the key of the thing at `at`, at most `top`: things with the same key have the same.
-fn mark_at(s: &[u8], h: usize, top: usize, at: usize) -> usize
-    requires { (4 ≤ h) × (at + h + read32 s.now at ≤ length s.now) × (length s.now < 2 ^ 32) }
-    ensures { (result ≡ mark_of top (key_in h s.now at)) × (result ≤ top) }
+fn mark_at<T: Thing>(s: &[u8], top: usize, at: usize) -> usize
+    requires { (at + T.HEAD + read32 s.now at ≤ length s.now) × (length s.now < 2 ^ 32) }
+    ensures { (result ≡ mark_of top (key_in T.HEAD s.now at)) × (result ≤ top) }
 {
-    let from = at + h;
+    let from = at + T::HEAD;
     let to = from + buffer::read_u32(s, at) as usize;
     (marked_by(&s[from..to]) / 65536) as usize & top
 }
 
-// A place and a number of a thing, as they are kept.
-fn from_u32(x: u32) -> usize
-    ensures { result ≡ x }
-{
-    x as usize
-}
-
-fn from_u16(x: u16) -> usize
-    ensures { result ≡ x }
-{
-    x as usize
-}
-
 // Whether a thing of a chain has the key of the one at `at`. Things are numbered from 1 on; `place` has where each stands and `prev` the number of
 // the one before it that has its mark, 0 for none; `last` is the number of the last one with the mark of the thing at `at`. How marks are made does not matter.
-fn in_chain(s: &[u8], h: usize, place: &[u32], prev: &[u16], last: usize, at: usize) -> bool
-    requires { Linked h s.now place.now prev.now last × (4 ≤ h) × (at + h + read32 s.now at ≤ length s.now) × (length s.now < 2 ^ 32) }
-    ensures { (mark : Bytes → ℕ) (key : ℕ → Bytes) (k : ℕ) → Chains mark key (key_in h s.now) place.now prev.now k
-        → Latest mark key (mark (key_in h s.now at)) last k → Among key result k (key_in h s.now at) }
+fn in_chain<T: Thing>(s: &[u8], place: &[u32], prev: &[u16], last: usize, at: usize) -> bool
+    requires { Linked T.HEAD s.now place.now prev.now last × (at + T.HEAD + read32 s.now at ≤ length s.now) × (length s.now < 2 ^ 32) }
+    ensures { (mark : Bytes → ℕ) (key : ℕ → Bytes) (k : ℕ) → Chains mark key (key_in T.HEAD s.now) place.now prev.now k
+        → Latest mark key (mark (key_in T.HEAD s.now at)) last k → Among key result k (key_in T.HEAD s.now at) }
 {
-    let key = at + h;
+    let key = at + T::HEAD;
     let len = buffer::read_u32(s, at) as usize;
     let mut c = last;
+    // Kept: no count: the thing before is the one that `prev` names.
     while 0 < c {
-        let p = from_u32(place[c - 1]);
+        let p = place[c - 1] as usize;
         let m = buffer::read_u32(s, p) as usize;
-        if same_part(s, p + h, m, key, len) {
+        if same_part(s, p + T::HEAD, m, key, len) {
             return true;
         }
-        c = from_u16(prev[c - 1]);
+        c = prev[c - 1] as usize;
     }
     false
 }
 
-// Where the first m of n things from `first` on end; 0 where two things have the same key, one of them among the first m. Each is compared with those
+// Where the first m of n things from `first` on end; none where two things have the same key, one of them among the first m. Each is compared with those
 // of the first m before it that share its mark, of marks up to `top`. It is lent the tables of the chains: for each mark the number of the latest thing that
 // has it, all 0 at first, and what `in_chain` follows.
-fn chained(
+// Kept: three tables and none of structs, since a link and a place side by side would be padded from six bytes to eight: a third more memory to clear, of a
+// check that every call makes.
+fn chained<T: Thing>(
     s: &[u8],
-    h: usize,
-    f: usize,
     top: usize,
     m: usize,
     n: usize,
@@ -192,99 +222,72 @@ fn chained(
     last: &mut [u16],
     prev: &mut [u16],
     place: &mut [u32],
-) -> usize
-    requires { Stand h f s.now n first × (0 < m) × (m ≤ n) × (m ≤ 4096) × Tables top m last.old prev.old place.old }
-    ensures { Chained h f s.now first m n result }
+) -> Option<usize>
+    requires { Stand T.HEAD T.REST s.now n first × (m ≤ n) × (m ≤ 4096) × Tables top m last.old prev.old place.old }
+    ensures { Chained T.HEAD T.REST s.now first m n result }
 {
     let mut at = first;
     let mut end = first;
-    let mut i = 0;
-    while i < n {
-        let mark = mark_at(s, h, top, at);
+    for i in 0..n {
+        let mark = mark_at::<T>(s, top, at);
         let c = last[mark];
-        if in_chain(s, h, place, prev, from_u16(c), at) {
-            return 0;
+        if in_chain::<T>(s, place, prev, c as usize, at) {
+            return None;
         }
-        let next = next_place(s, h, f, at);
-        let count = i + 1;
-        if i < m {
-            place[i] = at as u32;
-            prev[i] = c;
-            last[mark] = count as u16;
-            end = next;
+        let from = at;
+        at = next_place::<T>(s, from);
+        if m <= i {
+            continue;
         }
-        at = next;
-        i = count;
+        place[i] = from as u32;
+        prev[i] = c;
+        last[mark] = (i + 1) as u16;
+        end = at;
     }
-    end
+    Some(end)
 }
 
-// So for at most 64 things, all of which are chained. Few things have few marks: small tables are soon cleared.
-fn small_chained(s: &[u8], h: usize, f: usize, n: usize, first: usize) -> usize
-    requires { Stand h f s.now n first × (0 < n) × (n ≤ 64) }
-    ensures { Chained h f s.now first n n result }
+// So for at most THINGS of n, with MARKS marks, and the tables for them. Few things have few marks: small tables are soon cleared. Many have many: then few
+// share one, and a thing far off is seldom read again. Not inlined, so that the tables stand on the stack only while keys are compared.
+#[inline(never)]
+fn block<T: Thing, const MARKS: usize, const THINGS: usize>(
+    s: &[u8],
+    m: usize,
+    n: usize,
+    first: usize,
+) -> Option<usize>
+    requires { Stand T.HEAD T.REST s.now n first × (m ≤ n) × (m ≤ THINGS) × (THINGS ≤ 4096) × (0 < MARKS) × (MARKS < 2 ^ 32) }
+    ensures { Chained T.HEAD T.REST s.now first m n result }
 {
-    let mut last = [0u16; 256];
-    let mut prev = [0u16; 64];
-    let mut place = [0u32; 64];
-    chained(s, h, f, 255, n, n, first, &mut last, &mut prev, &mut place)
-}
-
-// For at most 512.
-fn middle_chained(s: &[u8], h: usize, f: usize, n: usize, first: usize) -> usize
-    requires { Stand h f s.now n first × (0 < n) × (n ≤ 512) }
-    ensures { Chained h f s.now first n n result }
-{
-    let mut last = [0u16; 2048];
-    let mut prev = [0u16; 512];
-    let mut place = [0u32; 512];
-    chained(s, h, f, 2047, n, n, first, &mut last, &mut prev, &mut place)
-}
-
-// And for at most 4,096 of n. Many things have many marks: then few share one, and a thing far off is seldom read again.
-fn large_chained(s: &[u8], h: usize, f: usize, m: usize, n: usize, first: usize) -> usize
-    requires { Stand h f s.now n first × (0 < m) × (m ≤ n) × (m ≤ 4096) }
-    ensures { Chained h f s.now first m n result }
-{
-    let mut last = [0u16; 8192];
-    let mut prev = [0u16; 4096];
-    let mut place = [0u32; 4096];
-    chained(s, h, f, 8191, m, n, first, &mut last, &mut prev, &mut place)
-}
-
-// The smaller of a number and 4096.
-fn at_most_4096(n: usize) -> usize
-    ensures { (result ≤ n) × (result ≤ 4096) × (0 < n → 0 < result) }
-{
-    if n < 4096 {
-        return n;
-    }
-    4096
+    let mut last = [0u16; MARKS];
+    let mut prev = [0u16; THINGS];
+    let mut place = [0u32; THINGS];
+    chained::<T>(s, MARKS - 1, m, n, first, &mut last, &mut prev, &mut place)
 }
 
 // Whether no two of the n things from `first` on have the same key: few are compared pairwise, more are chained, with as many marks as they ask for, and
 // beyond 4,096 they are taken in blocks.
-fn many_distinct(s: &[u8], h: usize, f: usize, n: usize, first: usize) -> bool
-    requires { Stand h f s.now n first }
-    ensures { Answers (keys_from h f s.now first) result n n }
+fn many_distinct<T: Thing>(s: &[u8], n: usize, first: usize) -> bool
+    requires { Stand T.HEAD T.REST s.now n first }
+    ensures { Answers (keys_from T.HEAD T.REST s.now first) result n n }
 {
     if n < 8 {
-        return few_distinct(s, h, f, n, first);
+        return few_distinct::<T>(s, n, first);
     }
     if n <= 64 {
-        return small_chained(s, h, f, n, first) != 0;
+        return block::<T, 256, 64>(s, n, n, first).is_some();
     }
     if n <= 512 {
-        return middle_chained(s, h, f, n, first) != 0;
+        return block::<T, 2048, 512>(s, n, n, first).is_some();
     }
     let mut at = first;
     let mut left = n;
+    // Kept: no chunks of a slice: where the next block begins is what the last one's check found.
     while 0 < left {
-        let m = at_most_4096(left);
-        let next = large_chained(s, h, f, m, left, at);
-        if next == 0 {
+        let m = left.min(4096);
+        let Some(next) = block::<T, 8192, 4096>(s, m, left, at) else {
             return false;
-        }
+        };
         at = next;
         left -= m;
     }
@@ -292,14 +295,14 @@ fn many_distinct(s: &[u8], h: usize, f: usize, n: usize, first: usize) -> bool
 }
 
 // The same. Most items have one entry, and one thing is not walked.
-fn distinct(s: &[u8], h: usize, f: usize, n: usize, first: usize) -> bool
-    requires { Stand h f s.now n first }
-    ensures { Answers (keys_from h f s.now first) result n n }
+fn distinct<T: Thing>(s: &[u8], n: usize, first: usize) -> bool
+    requires { Stand T.HEAD T.REST s.now n first }
+    ensures { Answers (keys_from T.HEAD T.REST s.now first) result n n }
 {
     if n <= 1 {
         return true;
     }
-    many_distinct(s, h, f, n, first)
+    many_distinct::<T>(s, n, first)
 }
 
 // Whether an entry stands at `at`, within `end`.
@@ -326,24 +329,22 @@ fn entry_ok(s: &[u8], end: usize, at: usize) -> bool
     resp3::value_in(s, from, next)
 }
 
-// Where n entries end that stand from `first` on, within `end`; 0 where they do not, or a command key is there twice.
-fn entries_end(s: &[u8], end: usize, n: usize, first: usize) -> usize
+// Where n entries end that stand from `first` on, within `end`; none where they do not, or a command key is there twice.
+fn entries_end(s: &[u8], end: usize, n: usize, first: usize) -> Option<usize>
     requires { (first ≤ end) × (end ≤ length s.now) × (length s.now < 2 ^ 32) }
     ensures { result ≡ entries_end is_value s.now end n first }
 {
     let mut at = first;
-    let mut i = 0;
-    while i < n {
+    for _ in 0..n {
         if !entry_ok(s, end, at) {
-            return 0;
+            return None;
         }
-        at = next_place(s, 16, 4, at);
-        i += 1;
+        at = next_place::<Entry>(s, at);
     }
-    if !distinct(s, 16, 4, n, first) {
-        return 0;
+    if !distinct::<Entry>(s, n, first) {
+        return None;
     }
-    at
+    Some(at)
 }
 
 // Whether the item at `at` is within `end`, by its lengths.
@@ -390,36 +391,34 @@ fn item_ok(s: &[u8], shards: usize, shard: usize, end: usize, at: usize, hash: u
     if n < 1 {
         return false;
     }
-    let next = next_place(s, 32, 24, at);
-    entries_end(s, next, n, at + 32 + k) == next
+    let next = next_place::<Item>(s, at);
+    entries_end(s, next, n, at + 32 + k) == Some(next)
 }
 
-// Where n items of that shard end that stand from byte 16 on, within `end`; 0 where they do not, or a key is there twice. A shard with one item or none
-// is not asked for that, since even the memory of the tables takes its time.
-fn items_end(s: &[u8], shards: usize, shard: usize, end: usize, n: usize) -> usize
+// Where n items of that shard end that stand from byte 16 on, within `end`; none where they do not, or a key is there twice. A shard with one item or none
+// is not asked for that.
+fn items_end(s: &[u8], shards: usize, shard: usize, end: usize, n: usize) -> Option<usize>
     requires { (16 ≤ end) × (end ≤ length s.now) × (length s.now < 2 ^ 32) × (0 < shards) }
     ensures { result ≡ items_end is_value (home_in shards) s.now shard end n }
 {
     let mut at = 16;
-    let mut i = 0;
-    while i < n {
+    for _ in 0..n {
         if !item_within(s, end, at) {
-            return 0;
+            return None;
         }
-        let hash = key_hash(s, 32, at);
+        let hash = key_hash::<Item>(s, at);
         if !item_ok(s, shards, shard, end, at, hash) {
-            return 0;
+            return None;
         }
-        at = next_place(s, 32, 24, at);
-        i += 1;
+        at = next_place::<Item>(s, at);
     }
     if n < 2 {
-        return at;
+        return Some(at);
     }
-    if !many_distinct(s, 32, 24, n, 16) {
-        return 0;
+    if !many_distinct::<Item>(s, n, 16) {
+        return None;
     }
-    at
+    Some(at)
 }
 
 // Whether the bytes are those of the shard of that number, which holds so many keys.
@@ -441,7 +440,7 @@ fn shard_ok(s: &[u8], shards: usize, shard: usize, keys: usize) -> bool
     if !buffer::all_zero(s, end, s.len()) {
         return false;
     }
-    items_end(s, shards, shard, end, n) == end
+    items_end(s, shards, shard, end, n) == Some(end)
 }
 
 // Whether the bytes are an image of the arena, for so many shards of so many keys and bytes each.
@@ -453,9 +452,7 @@ pub fn is_image(arena: &[u8], shards: usize, keys: usize, bytes: usize) -> bool
     if !buffer::all_zero(arena, all, arena.len()) {
         return false;
     }
-    let mut i = shards;
-    while 0 < i {
-        i -= 1;
+    for i in 0..shards {
         let from = i * bytes;
         let to = from + bytes;
         if !shard_ok(&arena[from..to], shards, i, keys) {

@@ -1,27 +1,17 @@
--- One pure law for each path of the code of the fields: what its loads and stores come to. Assumes nothing.
-use mathlib.Core.Path.{◌≡◌}
-use mathlib.Core.List.{[], ◌∷◌, append_assoc}
-use Prim.Native.Nat.{ℕ, ◌+◌, ◌/◌, ◌%◌, ◌^◌, ◌≤◌, ◌<◌}
-use native.Mathlib.Omega.{arith}
-use native.Mathlib.Numerals.{add-one}
-use lib.ListN.{length, take, drop, set}
-use lib.Seq.{sets-eq}
-use Rattle.buffer.specs.Same.{Bytes}
-use Rattle.buffer.specs.Part.{put}
-use Rattle.buffer.specs.PartLaws.{put-put}
+-- The bytes of a number by std's methods are those of Field.antt. Assumes nothing.
+use Rattle.std.specs.Prelude.{◌≡◌, refl, ◌∷◌, ℕ, zero, suc, ◌/◌, ◌%◌, ◌^◌}
+use Rattle.std.proofs.Common.{ap, sym, div-one, pow-suc}
+use Rattle.std.proofs.Math.Nat.{div-div-eq-div-mul}
+use Rattle.std.specs.Int.{bytes_low_first}
 use Rattle.buffer.specs.Field.{le}
-use Rattle.buffer.specs.FieldLaws.{length-le, le-add}
 
--- two stores write a field of two bytes
-pub two-stores : (s : Bytes) (at n : ℕ) → at + 2 ≤ length s → n < 65536 → set (set s at (n % 256)) (at + 1) (n / 256) ≡ put s at (le 2 n)
-unfolding put le
-two-stores s at n h b =
-    let e : n / 256 ≡ n / 256 % 256 = omega arith in
-    cc (sets-eq (n % 256 ∷ n / 256 % 256 ∷ []) s at h, add-one at, append_assoc (take at s) (n % 256 ∷ n / 256 % 256 ∷ []) (drop (at + 2) s))
+-- w bytes of a number from the i-th on
+bytes-from : (i w n : ℕ) → bytes_low_first i w n ≡ le w (n / 256 ^ i)
+unfolding le
+bytes-from i zero n = refl
+bytes-from zero (suc w) n = rw div-one (ap (◌∷◌ (n % 256)) (bytes-from 1 w n))
+bytes-from (suc i) (suc w) n = rw (div-div-eq-div-mul, ← pow-suc 256 (suc i)) (ap (◌∷◌ (n / 256 ^ suc i % 256)) (bytes-from (suc (suc i)) w n))
 
--- the halves of a field, one after the other, write the field
-pub two-halves : (s : Bytes) (w at n : ℕ) → at + w ≤ length s
-    → put (put s at (le w (n % 256 ^ w))) (at + w) (le w (n / 256 ^ w)) ≡ put s at (le (w + w) n)
-two-halves s w at n h =
-    let l : at + w ≡ at + length (le w (n % 256 ^ w)) = rw length-le in
-    cc (put-put s (le w (n % 256 ^ w)) (le w (n / 256 ^ w)) at (at + w) l h, le-add w w n)
+-- the bytes that `to_le_bytes` gives
+pub le_bytes : (w n : ℕ) → le w n ≡ bytes_low_first 0 w n
+le_bytes w n = let e : n / 256 ^ 0 ≡ n = div-one n in sym (rw e at (bytes-from 0 w n))

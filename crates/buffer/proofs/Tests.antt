@@ -1,20 +1,27 @@
--- The tests for equal bytes and for zeros: a turn of the loop over a block, and a block of the loop over a slice. Assumes nothing.
-use mathlib.Core.Path.{◌≡◌, refl, ap, ◌∙◌, sym}
-use mathlib.Core.Bool.{Bool, true, false, cond}
-use mathlib.Core.List.{[], ◌∷◌, ◌++◌}
-use Prim.Native.Nat.{ℕ, ◌+◌, ◌-◌, ◌≤◌, ◌<◌}
+-- The tests for equal bytes and for zeros, by std's words: `==` of slices, bits gathered by a fold, blocks of one length. Assumes nothing.
+use mathlib.Core.Path.{◌≡◌, refl, ap, ◌∙◌}
+use mathlib.Core.Bool.{Bool, false, cond}
+use mathlib.Core.List.{List, [], ◌∷◌}
+use Prim.Native.Nat.{ℕ, zero, suc, ◌*◌, ◌/◌}
 use native.Mathlib.Omega.{arith}
-use lib.ListN.{length, get_or, drop}
 use lib.Dec.{eqb}
-use lib.Bits.{bit_or, bit_xor, or_zero_l, or_add_and, xor_add_and, xor_self, and_le_l, and_le_r}
+use lib.Bits.{bit_or, or_zero_l, or_add_and, and_le_r}
 use borrow.Author.Tests.{eqb-true, eqb-false, ne_eqb}
+use Rattle.std.specs.Cmp.Lexicographic.{pointwise}
+use Rattle.std.specs.List.{fold, list_all}
+use Rattle.std.specs.Simd.{first_chunks}
+use Rattle.std.proofs.Common.{length, take, drop, take-append-drop, drop-drop, zero-mul, suc-mul, add_comm, sym}
 use Rattle.buffer.specs.Cases.{by_test}
 use Rattle.buffer.specs.Same.{Bytes, same}
-use Rattle.buffer.specs.SameLaws.{same-append}
-use Rattle.buffer.specs.Part.{part}
-use Rattle.buffer.specs.PartLaws.{length_part, part-add, drop-part}
-use Rattle.buffer.specs.Step.{part-suc}
 use Rattle.buffer.specs.Zero.{all_zero, all_zero-append}
+
+-- `==` of slices
+pub pointwise_same : (a b : Bytes) → pointwise eqb a b ≡ same a b
+unfolding same
+pointwise_same [] [] = refl
+pointwise_same [] (y ∷ b) = refl
+pointwise_same (x ∷ a) [] = refl
+pointwise_same (x ∷ a) (y ∷ b) = by_test (eqb x y) (λ e. rw e (pointwise_same a b)) (λ e. rw e)
 
 -- `|` is zero where both are
 or-test : (x y : ℕ) → eqb (bit_or x y) 0 ≡ cond (eqb x 0) (eqb y 0) false
@@ -23,64 +30,28 @@ or-test x y =
     (λ p. rw p (ap (λ (z : ℕ). eqb z 0) (ap (λ (z : ℕ). bit_or z y) (eqb-true x 0 p) ∙ or_zero_l y)))
     (λ p. rw p (ne_eqb (bit_or x y) 0 (λ e. eqb-false x 0 p (omega (arith, e, or_add_and x y, and_le_r x y)))))
 
--- `^` is zero where both are equal
-xor-test : (p q : ℕ) → eqb (bit_xor p q) 0 ≡ eqb p q
-xor-test p q =
-    by_test (eqb p q)
-    (λ e. rw e (ap (λ (z : ℕ). eqb z 0) (ap (λ (z : ℕ). bit_xor p z) (sym (eqb-true p q e)) ∙ xor_self p)))
-    (λ e. rw e (ne_eqb (bit_xor p q) 0 (λ z. eqb-false p q e (omega (arith, z, xor_add_and p q, and_le_l p q, and_le_r p q)))))
-
-itself : (b : Bool) → cond b true false ≡ b
-itself true = refl
-itself false = refl
-
--- one byte more of two ranges compared
-pub same_turn : (a b : Bytes) (from i x : ℕ) → from ≤ i → i < length a → i < length b → eqb x 0 ≡ same (part a from (i - from)) (part b from (i - from))
-    → eqb (bit_or x (bit_xor (get_or a i 0) (get_or b i 0))) 0 ≡ same (part a from (i + 1 - from)) (part b from (i + 1 - from))
-unfolding same
-same_turn a b from i x f l m e =
-    let k : ℕ = i - from in
-    let e₁ : from + k ≡ i = omega arith in
-    let e₂ : i + 1 - from ≡ k + 1 = omega arith in
-    let g : ℕ = get_or a i 0 in
-    let h : ℕ = get_or b i 0 in
-    let la : length (part a from k) ≡ length (part b from k) = length_part a from k (omega arith) ∙ sym (length_part b from k (omega arith)) in
-    let bit : eqb (bit_or x (bit_xor g h)) 0 ≡ cond (eqb x 0) (eqb g h) false = or-test x (bit_xor g h)
-    ∙ ap (λ (z : Bool). cond (eqb x 0) z false) (xor-test g h) in
-    let sum : same (part a from k ++ (g ∷ [])) (part b from k ++ (h ∷ [])) ≡ cond (same (part a from k) (part b from k)) (eqb g h) false =
-    same-append (part a from k) (g ∷ []) (part b from k) (h ∷ []) la
-    ∙ ap (λ (z : Bool). cond (same (part a from k) (part b from k)) z false) (itself (eqb g h)) in
-    cc (part-suc a from k 0 (omega arith), part-suc b from k 0 (omega arith))
-
--- one byte more of a range tested for zeros
-pub zero_turn : (s : Bytes) (from i x : ℕ) → from ≤ i → i < length s → eqb x 0 ≡ all_zero (part s from (i - from))
-    → eqb (bit_or x (get_or s i 0)) 0 ≡ all_zero (part s from (i + 1 - from))
+-- the bits that are gathered on top of x
+gathered : (s : Bytes) (x : ℕ) → eqb (fold bit_or x s) 0 ≡ cond (eqb x 0) (all_zero s) false
 unfolding all_zero
-zero_turn s from i x f l e =
-    let k : ℕ = i - from in
-    let e₁ : from + k ≡ i = omega arith in
-    let e₂ : i + 1 - from ≡ k + 1 = omega arith in
-    let g : ℕ = get_or s i 0 in
-    let bit : eqb (bit_or x g) 0 ≡ cond (eqb x 0) (eqb g 0) false = or-test x g in
-    let sum : all_zero (part s from k ++ (g ∷ [])) ≡ cond (all_zero (part s from k)) (eqb g 0) false =
-    all_zero-append (part s from k) (g ∷ []) ∙ ap (λ (z : Bool). cond (all_zero (part s from k)) z false) (itself (eqb g 0)) in
-    cc (part-suc s from k 0 (omega arith))
+gathered [] x = by_test (eqb x 0) (λ e. rw e) (λ e. rw e)
+gathered (y ∷ s) x = gathered s (bit_or x y) ∙ rw (or-test x y) (by_test (eqb x 0) (λ e. rw e) (λ e. rw e))
 
--- where the bytes from i up to `to` are tested, the test from i on is decided or is the test from `to` on
-pub same_block : (a b : Bytes) (i to : ℕ) {u t : Bool} → i ≤ to → to ≤ length a → to ≤ length b → u ≡ same (part a i (to - i)) (part b i (to - i)) → u ≡ t
-    → same (drop i a) (drop i b) ≡ cond t (same (drop to a) (drop to b)) false
-same_block a b i to h la lb e f =
-    let m : ℕ = to - i in
-    let n : i + m ≡ to = omega arith in
-    let p : length (part a i m) ≡ length (part b i m) = length_part a i m (omega arith) ∙ sym (length_part b i m (omega arith)) in
-    let x : drop i a ≡ part a i m ++ drop to a = cc (drop-part a i m) in
-    let y : drop i b ≡ part b i m ++ drop to b = cc (drop-part b i m) in
-    cc (same-append (part a i m) (drop to a) (part b i m) (drop to b) p)
+pub gathered_zero : (s : Bytes) → eqb (fold bit_or 0 s) 0 ≡ all_zero s
+gathered_zero s = gathered s 0
 
--- where the bytes from i up to `next` are tested, the test from i up to `to` is decided or is the test from `next` on
-pub zero-block : (s : Bytes) (i next to : ℕ) {u t : Bool} → i ≤ next → next ≤ to → u ≡ all_zero (part s i (next - i)) → u ≡ t
-    → all_zero (part s i (to - i)) ≡ cond t (all_zero (part s next (to - next))) false
-zero-block s i next to h l e f =
-    let m : i + (next - i) ≡ next = omega arith in
-    let n : to - i ≡ next - i + (to - next) = omega arith in
-    cc (part-add s i (next - i) (to - next), all_zero-append (part s i (next - i)) (part s next (to - next)))
+-- the test of a front and of what follows it
+by_front : (n : ℕ) (s : Bytes) → all_zero s ≡ cond (all_zero (take n s)) (all_zero (drop n s)) false
+by_front n s = ap all_zero (sym (take-append-drop n s)) ∙ all_zero-append (take n s) (drop n s)
+
+-- k blocks of n bytes, and what follows them
+by_blocks : (n k : ℕ) (s : Bytes) → cond (list_all all_zero (first_chunks n k s)) (all_zero (drop (k * n) s)) false ≡ all_zero s
+unfolding all_zero
+by_blocks n zero s = rw zero-mul
+by_blocks n (suc k) s =
+    let d : drop (k * n) (drop n s) ≡ drop (suc k * n) s = drop-drop (k * n) n s ∙ ap (λ (i : ℕ). drop i s) (rw (suc-mul k n, add_comm n (k * n))) in
+    sym (by_front n s ∙ by_test (all_zero (take n s)) (λ e. rw e (sym (by_blocks n k (drop n s)) ∙ rw d)) (λ e. rw e))
+
+-- where the blocks of s are tested, the test of s is decided or is that of the rest
+pub blocks_tested : (n : ℕ) (s rest : Bytes) (bs : List Bytes) {u t : Bool} → bs ≡ first_chunks n (length s / n) s → rest ≡ drop (length s / n * n) s
+    → u ≡ list_all all_zero bs → u ≡ t → cond t (all_zero rest) false ≡ all_zero s
+blocks_tested n s rest bs f d e q = let b = by_blocks n (length s / n) s in cc

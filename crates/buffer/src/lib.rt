@@ -9,123 +9,93 @@ ghost use Rattle.buffer.specs.Part.{part, put};
 ghost use Rattle.buffer.specs.Same.{same};
 ghost use Rattle.buffer.specs.Zero.{all_zero, zeroed};
 
-// A byte as a number.
-fn wide(x: u8) -> u16
-    ensures { (result ≡ x) × (result < 256) }
-{
-    x as u16
-}
-
 // The number that the two bytes at `at` spell, the lowest first.
+// Kept: six functions, since std has `from_le_bytes` and `to_le_bytes` at each type and in no trait: one generic function would need a trait of
+// ours, whose impls are these bodies.
+#[tactic(auto, unfolding(crate::specs::Field::read_le))]
 pub fn read_u16(s: &[u8], at: usize) -> u16
     requires { at + 2 ≤ length s.now }
     ensures { result ≡ read16 s.now at }
 {
-    let low = wide(s[at]);
-    let high = wide(s[at + 1]);
-    low + 256 * high
+    u16::from_le_bytes([s[at], s[at + 1]])
 }
 
 // The number that the four bytes at `at` spell, the lowest first.
+#[tactic(auto, unfolding(crate::specs::Field::read_le))]
 pub fn read_u32(s: &[u8], at: usize) -> u32
     requires { at + 4 ≤ length s.now }
     ensures { result ≡ read32 s.now at }
 {
-    let low = read_u16(s, at) as u32;
-    let high = read_u16(s, at + 2) as u32;
-    low + 65536 * high
+    u32::from_le_bytes([s[at], s[at + 1], s[at + 2], s[at + 3]])
 }
 
 // The number that the eight bytes at `at` spell, the lowest first.
+#[tactic(auto, unfolding(crate::specs::Field::read_le))]
 pub fn read_u64(s: &[u8], at: usize) -> u64
     requires { at + 8 ≤ length s.now }
     ensures { result ≡ read64 s.now at }
 {
-    let low = read_u32(s, at) as u64;
-    let high = read_u32(s, at + 4) as u64;
-    low + 4294967296 * high
+    u64::from_le_bytes([
+        s[at],
+        s[at + 1],
+        s[at + 2],
+        s[at + 3],
+        s[at + 4],
+        s[at + 5],
+        s[at + 6],
+        s[at + 7],
+    ])
 }
 
 // Writes the two bytes of n at `at`, the lowest first.
+#[tactic(auto, using(crate::proofs::Fields::le_bytes))]
 pub fn write_u16(s: &mut [u8], at: usize, n: u16)
     requires { at + 2 ≤ length s.old }
     ensures { s.new ≡ put s.old at (le16 n) }
 {
-    s[at] = (n % 256) as u8;
-    s[at + 1] = (n / 256) as u8;
+    copy_to(s, at, &u16::to_le_bytes(n));
 }
 
 // Writes the four bytes of n at `at`, the lowest first.
+#[tactic(auto, using(crate::proofs::Fields::le_bytes))]
 pub fn write_u32(s: &mut [u8], at: usize, n: u32)
     requires { at + 4 ≤ length s.old }
     ensures { s.new ≡ put s.old at (le32 n) }
 {
-    write_u16(s, at, (n % 65536) as u16);
-    write_u16(s, at + 2, (n / 65536) as u16);
+    copy_to(s, at, &u32::to_le_bytes(n));
 }
 
 // Writes the eight bytes of n at `at`, the lowest first.
+#[tactic(auto, using(crate::proofs::Fields::le_bytes))]
 pub fn write_u64(s: &mut [u8], at: usize, n: u64)
     requires { at + 8 ≤ length s.old }
     ensures { s.new ≡ put s.old at (le64 n) }
 {
-    write_u32(s, at, (n % 4294967296) as u32);
-    write_u32(s, at + 4, (n / 4294967296) as u32);
+    copy_to(s, at, &u64::to_le_bytes(n));
 }
 
-// Zero where a and b have the same bytes from `from` up to `to`. The loop has no exit, so that it compiles to vector code.
-fn differ(a: &[u8], b: &[u8], from: usize, to: usize) -> u8
-    requires { (from ≤ to) × (to ≤ length a.now) × (to ≤ length b.now) }
-    ensures { eqb result 0 ≡ same (part a.now from (to - from)) (part b.now from (to - from)) }
-{
-    let mut x: u8 = 0;
-    let mut i = from;
-    while i < to {
-        x = x | (a[i] ^ b[i]);
-        i += 1;
-    }
-    x
-}
-
-// Whether a and b have the same bytes: 64 at a time, with an exit after each block.
+// Whether a and b have the same bytes.
+#[tactic(auto, using(crate::proofs::Tests::pointwise_same))]
 pub fn same(a: &[u8], b: &[u8]) -> bool
     ensures { result ≡ same a.now b.now }
 {
-    if a.len() != b.len() {
-        return false;
-    }
-    let n = a.len();
-    let mut i = 0;
-    while 64 <= n - i {
-        if differ(a, b, i, i + 64) != 0 {
-            return false;
-        }
-        i += 64;
-    }
-    differ(a, b, i, n) == 0
+    a == b
 }
 
 // Whether the bytes of s at `at` are those of key.
+#[tactic(auto, using(crate::proofs::Tests::pointwise_same), unfolding(crate::specs::Part::part))]
 pub fn same_at(s: &[u8], at: usize, key: &[u8]) -> bool
     requires { at + length key.now ≤ length s.now }
     ensures { result ≡ same (part s.now at (length key.now)) key.now }
 {
-    let end = at + key.len();
-    same(&s[at..end], key)
+    &s[at..at + key.len()] == key
 }
 
-// Zero where s has only zeros from `from` up to `to`. The loop has no exit, so that it compiles to vector code.
-fn or_range(s: &[u8], from: usize, to: usize) -> u8
-    requires { (from ≤ to) × (to ≤ length s.now) }
-    ensures { eqb result 0 ≡ all_zero (part s.now from (to - from)) }
+// Whether s has only zeros: all bits are gathered, with no exit, so that it compiles to vector code.
+fn only_zeros(s: &[u8]) -> bool
+    ensures { result ≡ all_zero s.now }
 {
-    let mut x: u8 = 0;
-    let mut i = from;
-    while i < to {
-        x = x | s[i];
-        i += 1;
-    }
-    x
+    s.iter().fold(0, |bits, byte| bits | byte) == 0
 }
 
 // Whether s has only zeros from `from` up to `to`: 64 bytes at a time, with an exit after each block.
@@ -133,25 +103,20 @@ pub fn all_zero(s: &[u8], from: usize, to: usize) -> bool
     requires { (from ≤ to) × (to ≤ length s.now) }
     ensures { result ≡ all_zero (part s.now from (to - from)) }
 {
-    let mut i = from;
-    while 64 <= to - i {
-        if or_range(s, i, i + 64) != 0 {
-            return false;
-        }
-        i += 64;
-    }
-    or_range(s, i, to) == 0
+    let (blocks, rest) = s[from..to].as_chunks::<64>();
+    blocks.iter().all(|block| only_zeros(block)) && only_zeros(rest)
 }
 
 // Zeros from `from` up to `to`; none where `to` is not above `from`.
+// Kept: a `for`, since std's `fill` takes 1.3 to 1.6 times as long up to 256 bytes.
 pub fn fill_zero(s: &mut [u8], from: usize, to: usize)
     requires { to ≤ length s.old }
     ensures { s.new ≡ zeroed s.old from to }
 {
-    let mut i = from;
-    while i < to {
-        s[i] = 0;
-        i += 1;
+    if from < to {
+        for byte in s[from..to].iter_mut() {
+            *byte = 0;
+        }
     }
 }
 

@@ -17,7 +17,7 @@ use Rattle.commands.specs.Names.{name-defs}
 use Rattle.commands.specs.MultiKey.{multi_key, single_name}
 use Rattle.call_record.specs.Record.{enc_argument}
 use Rattle.call_record.specs.Check.{check_of, check_def}
-use Rattle.call_record.specs.declared.Checked.TheVariants.{Wrong}
+use Rattle.format.specs.Ends.{wrong}
 use Rattle.cursor.specs.At.{args_at, args_end, commands_at, record_at}
 use Rattle.resp3.specs.Kinds.{kind_of}
 use Rattle.resp3.specs.Value.{encode}
@@ -125,7 +125,7 @@ pub three-before-two : (s : Bytes) → length s ≡ 16777217 → plans s 1 2 fre
 unfolding call-case-defs
 three-before-two s l = rw l
 
-pub longest-record : (s : Bytes) (o : ℕ) → length s ≡ 16777216 → check_def s ≡ Wrong o → (plans s 1 2 fresh_one).returned ≡ wrong_at o
+pub longest-record : (s : Bytes) (o : ℕ) → length s ≡ 16777216 → check_def s ≡ wrong o → (plans s 1 2 fresh_one).returned ≡ wrong_at o
 unfolding cause-case-defs
 longest-record s o l q = rw (l, q)
 

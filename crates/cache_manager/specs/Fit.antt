@@ -1,5 +1,5 @@
 -- What a record that the check calls fine gives the passes: commands inside its bytes, valid, and not too many. Assumes nothing.
-use Rattle.std.specs.Prelude.{◌≡◌, refl, false, ℕ, zero, suc, ◌≤◌, length}
+use Rattle.std.specs.Prelude.{Ok, ◌≡◌, refl, false, ℕ, zero, suc, ◌≤◌, length}
 use Rattle.std.proofs.Common.{ap, arith}
 use Rattle.buffer.specs.Same.{Bytes}
 use Rattle.buffer.specs.Field.{read16}
@@ -8,7 +8,6 @@ use Rattle.config.specs.declared.Settings.{Settings}
 use Rattle.format.specs.Lists.{All}
 use Rattle.call_record.specs.Record.{Record, ValidCommand}
 use Rattle.call_record.specs.Check.{check_def, check-fine}
-use Rattle.call_record.specs.declared.Checked.TheVariants.{Fine}
 use Rattle.cursor.specs.At.{commands_at, CommandsIn, record_at}
 use Rattle.cursor.specs.Laws.{decoded-is}
 use Rattle.planning.specs.Ask.{any_late}
@@ -26,7 +25,7 @@ unfolding commands_at
 commands-count s zero at = refl
 commands-count s (suc n) at = ap suc (commands-count s n _)
 
-pub fit : (s : Bytes) → check_def s ≡ Fine → Fit s
+pub fit : (s : Bytes) → check_def s ≡ Ok tt → Fit s
 unfolding record_at
 fit s q =
     let w = (check-fine s).0 q in

@@ -1,7 +1,7 @@
 -- What planning's own answer means: the offset that it returns is where the record goes wrong, and what it leaves in the send buffer is a run of RESP3
 -- commands, as many as its response
 -- counts say. Both are about `plan_call`, whatever goes in. Assumes nothing.
-use Rattle.std.specs.Prelude.{◌≡◌, List, ℕ, ltb, length}
+use Rattle.std.specs.Prelude.{Result, Ok, Err, ◌≡◌, List, ℕ, ltb, length}
 use Rattle.std.proofs.Math.Path.{refl}
 use Rattle.std.proofs.Common.{sym, ap, ◌∙◌, arith}
 use Rattle.buffer.specs.Same.{Bytes}
@@ -13,8 +13,8 @@ use Rattle.config.specs.Config.{checked}
 use Rattle.config.specs.declared.Settings.{Settings}
 use Rattle.call_record.specs.Offset.{WrongAt}
 use Rattle.call_record.specs.Check.{check_def, check-offset}
-use Rattle.call_record.specs.declared.Checked.{Checked}
-use Rattle.call_record.specs.declared.Checked.TheVariants.{Fine, Wrong}
+use Rattle.format.specs.declared.Wrong.{Wrong}
+use Rattle.format.specs.Ends.{wrong as goes_wrong}
 use Rattle.cursor.specs.At.{record_at}
 use Rattle.book.specs.Book.{Row, Answer, answers}
 use Rattle.book.specs.Calls.{lookups, ons}
@@ -55,7 +55,7 @@ module _ (t e : ℕ) (s d f : Bytes) (h : Held) where
   -- the ways in which a planning comes out: refused by a number alone, by the check with its offset, or written
   data Way (x : Left) : Type 0 where
     refused : (n : ℕ) → x ≡ refusal t e s d f h (refused_as n) → Way x
-    wrong : (o : ℕ) → check_def s ≡ Wrong o → x ≡ refusal t e s d f h (wrong_at o) → Way x
+    wrong : (o : ℕ) → check_def s ≡ goes_wrong o → x ≡ refusal t e s d f h (wrong_at o) → Way x
     written : (y : Planned) → SentRun y → x.returned ≡ wrote (length y.plan) (length y.send) y.counts → x.send ≡ put f 0 y.send → Way x
 
   module _ (g : Settings) (rows : ℕ → Row) where
@@ -74,10 +74,10 @@ module _ (t e : ℕ) (s d f : Bytes) (h : Held) where
         (λ c. rw (l, c) (written (planned_from (ask g t) g (record_at s) said) (run_of said) refl refl)))
 
     -- the check's verdict
-    on-check : (x : Checked) → check_def s ≡ x → Way (judged t e s d f h g rows x)
+    on-check : (x : Result (Unit {0}) Wrong) → check_def s ≡ x → Way (judged t e s d f h g rows x)
     unfolding judged plan_on
-    on-check Fine p = on-record (answers (setup_now g) (ons (lookups t e (wanted (ask g t) (record_at s).commands))) (book_of rows h))
-    on-check (Wrong o) p = wrong o p refl
+    on-check (Ok u) p = on-record (answers (setup_now g) (ons (lookups t e (wanted (ask g t) (record_at s).commands))) (book_of rows h))
+    on-check (Err w) p = wrong w.at p refl
 
     admitted : Way (admitted_to t e s d f h g rows)
     unfolding admitted_to
@@ -99,7 +99,7 @@ module _ (t e : ℕ) (s d f : Bytes) (h : Held) where
       where
         by : Way left → WrongAt s o
         by (refused n p) = absurd (not-refused n (sym (ap (λ (x : Left). x.returned) p) ∙ r))
-        by (wrong q c p) = (check-offset s o).0 (c ∙ ap Wrong (wrong-same (sym (ap (λ (x : Left). x.returned) p) ∙ r)))
+        by (wrong q c p) = (check-offset s o).0 (c ∙ ap goes_wrong (wrong-same (sym (ap (λ (x : Left). x.returned) p) ∙ r)))
         by (written y run p q) = absurd (not_written (sym p ∙ r))
 
     -- what stands in the send buffer is a run of commands

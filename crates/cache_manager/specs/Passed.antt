@@ -1,5 +1,5 @@
 -- What the second pass leaves, all of it: both buffers from their beginning, the arena and the counts. Assumes nothing.
-use Rattle.std.specs.Prelude.{◌≡◌, Bool, true, false, cond, List, ◌++◌, ltb}
+use Rattle.std.specs.Prelude.{◌≡◌, Bool, true, false, cond, List, ◌++◌, ltb, Ok, Option, is_none}
 use Rattle.std.proofs.Math.Path.{refl, ap}
 use Rattle.std.proofs.Common.{sym, ◌∙◌}
 use Prim.Native.Nat.{ℕ, ◌+◌, ◌≤◌}
@@ -23,37 +23,35 @@ use Rattle.planning_outcome.specs.Sizes.{all_nodes, all_sent, sent_count}
 use Rattle.planning_send_len.specs.Wrapped.{start_bytes, end_bytes}
 use Rattle.planning_look_up.specs.Looks.{Keeps}
 use Rattle.room.specs.Room.{spent, whole, spent-more, whole-short}
-use Rattle.room.specs.declared.Room.{Room as Rest}
 use Rattle.planning.specs.Plan.{plan_head_size}
 use Rattle.planning_second_pass.specs.Does.{Does, Room}
 use Rattle.planning_second_pass.specs.declared.Progress.{Progress}
 use Rattle.cache_manager.specs.Pipeline.{returned_of, wrote}
 use Rattle.cache_manager.specs.Planned.{plan_bytes, send_bytes}
 use Rattle.cache_manager.specs.declared.Written.{Written}
-use Rattle.cache_manager.specs.declared.Pipelined.TheVariants.{Done}
 use Rattle.cache_manager.specs.declared.CachedPipeline.{CachedPipeline}
 
 -- ---- cause 5
 
 -- the room of the two buffers, counted down
-pub room-short : (R n : ℕ) (P x y : Bytes) → P ≡ x ++ y → length x ≡ n → (spent (spent (whole R) n) (length y)).short ≡ ltb R (length P)
+pub room-short : (R n : ℕ) (P x y : Bytes) → P ≡ x ++ y → length x ≡ n → is_none (spent (spent (whole R) n) (length y)) ≡ ltb R (length P)
 room-short R n P x y q l =
-    ap (λ (r : Rest). r.short) (spent-more (whole R) n (length y)) ∙ whole-short R (n + length y)
+    ap (λ (r : Option ℕ). is_none r) (spent-more (whole R) n (length y)) ∙ whole-short R (n + length y)
     ∙ ap (ltb R) (sym (ap length q ∙ length-append x y ∙ ap (λ (z : ℕ). z + length y) l))
 
 module _ (p : Setup) (rows : ℕ → Row) (t e : ℕ) (g : Settings) (b : Bool) (cs : List Command) where
-  pub plan-short : (R : ℕ) → (spent (spent (whole R) plan_head_size) (length (all_nodes p rows t e (ask g t) cs))).short ≡ ltb R
+  pub plan-short : (R : ℕ) → is_none (spent (spent (whole R) plan_head_size) (length (all_nodes p rows t e (ask g t) cs))) ≡ ltb R
       (length (plan_bytes p rows t e g b cs))
   unfolding plan_bytes
   plan-short R = room-short R plan_head_size _ (plan_head b (length cs)) (all_nodes p rows t e (ask g t) cs) refl (length-plan-head b (length cs))
 
   pub send-short : (S w : ℕ) → w ≡ length (start_bytes b) + length (end_bytes b)
-      → (spent (spent (whole S) w) (length (all_sent p rows t e (ask g t) g.mode cs))).short ≡ ltb S (length (send_bytes p rows t e g b cs))
+      → is_none (spent (spent (whole S) w) (length (all_sent p rows t e (ask g t) g.mode cs))) ≡ ltb S (length (send_bytes p rows t e g b cs))
   unfolding send_bytes
   send-short S w q =
       let l = length-append (start_bytes b) (all_sent p rows t e (ask g t) g.mode cs ++ end_bytes b) in
       let k = length-append (all_sent p rows t e (ask g t) g.mode cs) (end_bytes b) in
-      ap (λ (r : Rest). r.short) (spent-more (whole S) w (length (all_sent p rows t e (ask g t) g.mode cs)))
+      ap (λ (r : Option ℕ). is_none r) (spent-more (whole S) w (length (all_sent p rows t e (ask g t) g.mode cs)))
       ∙ whole-short S (w + length (all_sent p rows t e (ask g t) g.mode cs))
       ∙ ap (ltb S) (omega arith)
 
@@ -93,7 +91,7 @@ module _ (g : Settings) (t e : ℕ) (b : Bool) (cs : List Command) (a d f : Byte
       omega arith
 
 -- the numbers
-pub numbers : (b : Bool) (n m x n' m' x' : ℕ) → n ≡ n' → m ≡ m' → x ≡ x' → returned_of (Done (written_of b n m x)) ≡ wrote n' m' (responses b x')
+pub numbers : (b : Bool) (n m x n' m' x' : ℕ) → n ≡ n' → m ≡ m' → x ≡ x' → returned_of (Ok (written_of b n m x)) ≡ wrote n' m' (responses b x')
 unfolding responses
 numbers true n m x n' m' x' p q r = rw (p, q, r)
 numbers false n m x n' m' x' p q r = rw (p, q, r)
@@ -134,7 +132,7 @@ module _ (g : Settings) (t e : ℕ) (b : Bool) (cs : List Command) (a d f d₁ f
 
     -- all is written
     pub passed : (f₃ : Bytes) (end : ℕ) (r : CachedPipeline) → Wrote f₂ y.from (end_bytes b) f₃ end
-        → r.answer ≡ Done (written_of b y.to end y.sent) → r.counts ≡ y.counts
+        → r.answer ≡ Ok (written_of b y.to end y.sent) → r.counts ≡ y.counts
         → (bk : Book) → Keeps g a counts bk → Passed g t e b cs bk d f a' d₂ f₃ r
     unfolding plan_bytes send_bytes
     passed f₃ end r z q c bk o =

@@ -1,17 +1,18 @@
 -- Planning as a call (`get_cached_pipeline`): its causes, what planning returns and what it leaves, from the settings, the arguments and what the
 -- caller holds. Rules are docs/BEHAVIOUR.md's. Assumes nothing: these are definitions.
 -- Letters: g settings, t clock, e epoch, s the call record's bytes, r the call record, d the plan buffer's bytes, f the send buffer's, h what the caller holds.
-use Rattle.std.specs.Prelude.{◌≡◌, cond, ℕ, ltb, length}
+use Rattle.std.specs.Prelude.{◌≡◌, cond, ℕ, ltb, length, Result, Ok, Err}
 use Rattle.buffer.specs.Same.{Bytes}
 use Rattle.buffer.specs.Part.{put}
 use Rattle.config.specs.Limits.{max_bytes}
-use Rattle.config.specs.Causes.{bad_record, too_long}
+use Rattle.config.specs.Causes.{bad_record, too_long, number}
+use Rattle.config.specs.declared.Cause.{Cause}
+use Rattle.config.specs.declared.Cause.TheVariants.{BadRecord}
 use Rattle.config.specs.Config.{checked}
 use Rattle.config.specs.declared.Settings.{Settings}
 use Rattle.call_record.specs.Record.{Record}
 use Rattle.call_record.specs.Check.{check_def}
-use Rattle.call_record.specs.declared.Checked.{Checked}
-use Rattle.call_record.specs.declared.Checked.TheVariants.{Fine, Wrong}
+use Rattle.format.specs.declared.Wrong.{Wrong}
 use Rattle.cursor.specs.At.{record_at}
 use Rattle.book.specs.Book.{Row}
 use Rattle.book.specs.Calls.{after_call}
@@ -21,8 +22,7 @@ use Rattle.planning.specs.Planning.{PlanAnswer, because, done, plan_on, call_of}
 use Rattle.sharded_lru.specs.Lent.{setup_now}
 use Rattle.call_entry.specs.Entered.{no_cause, entered}
 use Rattle.statistics.specs.OfBook.{counts_of}
-use Rattle.cache_manager.specs.declared.Pipelined.{Pipelined}
-use Rattle.cache_manager.specs.declared.Pipelined.TheVariants.{Done, BadRecord, Refused}
+use Rattle.cache_manager.specs.declared.Written.{Written}
 use Rattle.cache_manager.specs.declared.CachedPipeline.{CachedPipeline}
 
 -- ---- what is returned
@@ -69,9 +69,9 @@ module _ (t e : ℕ) (s d f : Bytes) (h : Held) where
   recorded g rows r = pipelined g rows r (plan_on (setup_now g) (book_of rows h) g t e r (length d) (length f))
 
   -- cause 2 (C2)
-  unfoldable pub judged : Settings → (ℕ → Row) → Checked → Left
-  judged g rows Fine = recorded g rows (record_at s)
-  judged g rows (Wrong o) = refusal (wrong_at o)
+  unfoldable pub judged : Settings → (ℕ → Row) → Result (Unit {0}) Wrong → Left
+  judged g rows (Ok u) = recorded g rows (record_at s)
+  judged g rows (Err w) = refusal (wrong_at w.at)
 
   -- cause 3 comes before it, for a record that is too long, right or wrong (C3, and the order of rule C12)
   unfoldable pub admitted_to : Settings → (ℕ → Row) → Left
@@ -84,10 +84,14 @@ plan_call size mode ttl t e s d f h =
 
 -- ---- what the code's answer stands for
 
-abbrev pub returned_of : Pipelined → Returned
-returned_of (Done w) = wrote w.plan w.send (record { offset = w.offset; count = w.count })
-returned_of (BadRecord o) = wrong_at o
-returned_of (Refused n) = refused_as n
+-- a refusal: cause 2 with its offset, any other by its number
+abbrev pub refused_by : Cause → Returned
+refused_by (BadRecord o) = wrong_at o
+refused_by cause = refused_as (number cause)
+
+abbrev pub returned_of : Result Written Cause → Returned
+returned_of (Ok w) = wrote w.plan w.send (record { offset = w.offset; count = w.count })
+returned_of (Err cause) = refused_by cause
 
 -- the call returned r and left the arena a, the plan buffer d and the send buffer f, as is said
 pub record Leaves (x : Left) (a d f : Bytes) (r : CachedPipeline) : Type 0 where

@@ -1,18 +1,19 @@
 -- What planning leaves, one law for each path of the code. Assumes nothing.
-use Rattle.std.specs.Prelude.{◌≡◌, refl, Bool, true, false, ◌||◌, List, ℕ, ◌≤◌, ◌<◌, ltb, length}
+use Rattle.std.specs.Prelude.{◌≡◌, refl, Bool, true, false, ◌||◌, List, ℕ, ◌≤◌, ◌<◌, ltb, length, Ok, Err}
 use Rattle.std.proofs.Math.Path.{sym, ap}
 use Rattle.std.proofs.Common.{ap₂, ◌∙◌, true≢false, ltb-false, lt-ltb, le-ltb}
 use Rattle.std.proofs.Math.Option.{some}
 use Rattle.buffer.specs.Same.{Bytes}
 use Rattle.config.specs.Limits.{max_bytes, max_commands}
-use Rattle.config.specs.Causes.{late_expiry, short_buffer, too_long}
+use Rattle.config.specs.Causes.{late_expiry, short_buffer, too_long, number}
 use Rattle.config.specs.Config.{checked}
-use Rattle.config.specs.declared.CheckedConfig.TheVariants.{Fine as Passes}
+use Rattle.config.specs.declared.Cause.{Cause}
+use Rattle.config.specs.declared.Cause.TheVariants.{LateExpiry, ShortBuffer}
 use Rattle.config.specs.declared.Settings.{Settings}
 use Rattle.statistics.specs.declared.Statistics.{Statistics}
 use Rattle.call_record.specs.Record.{Command, transaction}
 use Rattle.call_record.specs.Check.{check_def}
-use Rattle.call_record.specs.declared.Checked.TheVariants.{Fine, Wrong}
+use Rattle.format.specs.Ends.{wrong}
 use Rattle.cursor.specs.At.{commands_of, CommandsHere, command_cursor, record_at}
 use Rattle.cursor.specs.declared.Commands.{Commands}
 use Rattle.resp3.specs.Ends.{is_value}
@@ -25,16 +26,14 @@ use Rattle.planning.specs.Ask.{ask, any_late}
 use Rattle.planning.specs.Outcome.{wanted}
 use Rattle.sharded_lru.specs.Lent.{setup_now}
 use Rattle.sharded_lru.specs.Admit.{admitted}
-use Rattle.sharded_lru.specs.declared.Admitted.TheVariants.{Refused as NotAdmitted}
-use Rattle.call_entry.specs.Laws.{is-entered, not_entered}
+use Rattle.call_entry.specs.Laws.{is-entered, not_entered, each-refusal}
 use Rattle.statistics.specs.OfBook.{counts_of}
 use Rattle.planning_dry_pass.specs.Dry.{Planable}
 use Rattle.call_entry.specs.Entered.{holding}
-use Rattle.cache_manager.specs.Pipeline.{Returned, refused_as, wrong_at, Left, refusal, recorded, judged, admitted_to, plan_call, returned_of, Leaves}
+use Rattle.cache_manager.specs.Pipeline.{Returned, refused_as, refused_by, wrong_at, Left, refusal, recorded, judged, admitted_to, plan_call, returned_of, Leaves}
 use Rattle.cache_manager.specs.Planned.{plan_bytes, send_bytes, plan_now, send_now, late-refused, short-refused, all-written}
 use Rattle.cache_manager.specs.Passed.{Passed}
 use Rattle.cache_manager.specs.Fit.{Fit, planable}
-use Rattle.cache_manager.specs.declared.Pipelined.TheVariants.{Refused}
 use Rattle.cache_manager.specs.declared.CachedPipeline.{CachedPipeline}
 
 -- a refusal leaves everything as it was
@@ -61,7 +60,7 @@ module _ (t e : ℕ) (s d f a : Bytes) (g : Settings) (k : Commands) (counts : S
 
   module _ (rows : ℕ → Row) (next : ℕ) (r : CachedPipeline) where
     -- cause 4
-    pub record-late : any_late g t (commands_of s k) ≡ true → (r.answer ≡ Refused late_expiry) × (r.counts ≡ counts)
+    pub record-late : any_late g t (commands_of s k) ≡ true → (r.answer ≡ Err LateExpiry) × (r.counts ≡ counts)
         → Leaves (recorded t e s d f (holding a (counts_of counts) next) g rows (record_at s)) a d f r
     record-late l z =
         leaves_all t e s d f a counts next _ (refused_as late_expiry) r
@@ -86,7 +85,7 @@ module _ (t e : ℕ) (s d f a : Bytes) (g : Settings) (k : Commands) (counts : S
       -- cause 5
       pub record-short : (ltb (length d) (length (plan_bytes (setup_now g) rows t e g b (commands_of s k))) || ltb (length f)
           (length (send_bytes (setup_now g) rows t e g b (commands_of s k)))) ≡ true
-          → (r.answer ≡ Refused short_buffer) × (r.counts ≡ counts)
+          → (r.answer ≡ Err ShortBuffer) × (r.counts ≡ counts)
           → Leaves (recorded t e s d f (holding a (counts_of counts) next) g rows (record_at s)) a d f r
       record-short x z =
           leaves_all t e s d f a counts next _ (refused_as short_buffer) r
@@ -128,23 +127,28 @@ module _ (t e : ℕ) (s d f : Bytes) (h : Held) (g : Settings) (rows : ℕ → R
   unfolding admitted_to
   too_long_lem l = rw (lt-ltb max_bytes (length s) l)
 
-  pub bad-record : length s ≤ max_bytes → (o : ℕ) → check_def s ≡ Wrong o → admitted_to t e s d f h g rows ≡ refusal t e s d f h (wrong_at o)
+  pub bad-record : length s ≤ max_bytes → (o : ℕ) → check_def s ≡ wrong o → admitted_to t e s d f h g rows ≡ refusal t e s d f h (wrong_at o)
   unfolding admitted_to judged
   bad-record l o q = rw (le-ltb max_bytes (length s) l, q)
 
-  pub good-record : length s ≤ max_bytes → check_def s ≡ Fine → admitted_to t e s d f h g rows ≡ recorded t e s d f h g rows (record_at s)
+  pub good-record : length s ≤ max_bytes → check_def s ≡ Ok tt → admitted_to t e s d f h g rows ≡ recorded t e s d f h g rows (record_at s)
   unfolding admitted_to judged
   good-record l q = rw (le-ltb max_bytes (length s) l, q)
 
 -- ---- causes 1 and 9
 
 module _ (size mode ttl t e : ℕ) (s d f : Bytes) (h : Held) where
-  pub call-admitted : (g : Settings) (rows : ℕ → Row) → checked size mode ttl (length h.arena) ≡ Passes g
+  pub call-admitted : (g : Settings) (rows : ℕ → Row) → checked size mode ttl (length h.arena) ≡ Ok g
       → decode is_value (setup_now g) h.arena ≡ some rows
       → plan_call size mode ttl t e s d f h ≡ admitted_to t e s d f h g rows
   unfolding plan_call
   call-admitted g rows p q = is-entered (λ n. refusal t e s d f h (refused_as n)) (admitted_to t e s d f h) _ h.arena g rows p q
 
-  pub call-refused : (n : ℕ) → admitted size mode ttl h.arena ≡ NotAdmitted n → plan_call size mode ttl t e s d f h ≡ refusal t e s d f h (refused_as n)
+  pub call-refused : (cause : Cause) → admitted size mode ttl h.arena ≡ Err cause
+      → plan_call size mode ttl t e s d f h ≡ refusal t e s d f h (refused_as (number cause))
   unfolding plan_call
-  call-refused n z = not_entered (λ n. refusal t e s d f h (refused_as n)) (admitted_to t e s d f h) size mode ttl n h.arena z
+  call-refused cause z = not_entered (λ n. refusal t e s d f h (refused_as n)) (admitted_to t e s d f h) size mode ttl cause h.arena z
+
+  -- neither is cause 2, so that its number tells it
+  pub refused-returned : (cause : Cause) → admitted size mode ttl h.arena ≡ Err cause → refused_by cause ≡ refused_as (number cause)
+  refused-returned cause = each-refusal (λ (c : Cause). refused_by c ≡ refused_as (number c)) refl refl size mode ttl cause h.arena

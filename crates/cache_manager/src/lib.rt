@@ -1,8 +1,8 @@
 // Planning: `get_cached_pipeline` (cache_manager.rs), on a lent arena, a call record and two lent buffers. Nothing is asked of the caller: what is wrong is
-// refused by a cause's number. specs/Pipeline.antt says what is returned and left.
+// refused by its cause. specs/Pipeline.antt says what is returned and left.
 #![tactic(auto)]
 
-ghost use Rattle.std.specs.Prelude.{◌≡◌, ◌||◌, ℕ, ◌+◌, ◌^◌, ◌≤◌, ◌<◌, ltb, length};
+ghost use Rattle.std.specs.Prelude.{◌≡◌, ◌||◌, ℕ, ◌+◌, ◌^◌, ◌≤◌, ◌<◌, Ok, ltb, length};
 ghost use Rattle.config.specs.Limits.{max_bytes, max_commands};
 ghost use Rattle.call_record.specs.Check.{check_def};
 ghost use Rattle.cursor.specs.At.{commands_of, record_at};
@@ -11,24 +11,19 @@ ghost use Rattle.sharded_lru.specs.Lent.{setup_now, Lent, Arena};
 ghost use Rattle.key_filter.specs.Filter.{Filtered};
 ghost use Rattle.planning_look_up.specs.Looks.{Keeps};
 ghost use Rattle.planning_dry_pass.specs.Dry.{Planable};
-ghost use Rattle.call_record.specs.declared.Checked.TheVariants.{Fine};
-ghost use Rattle.cache_manager.specs.declared.Pipelined.TheVariants.{Refused};
 ghost use Rattle.statistics.specs.OfBook.{counts_of};
 ghost use Rattle.call_entry.specs.Entered.{holding};
 ghost use Rattle.cache_manager.specs.Pipeline.{plan_call, recorded, admitted_to, Leaves};
 ghost use Rattle.cache_manager.specs.Planned.{plan_bytes, send_bytes};
 ghost use Rattle.cache_manager.specs.Passed.{written_of, Passed};
 
-use call_record::Checked;
-use config::{Now, Settings};
+use config::{CacheConfig, Cause, Now, Settings};
 use cursor::Commands;
 use planning_second_pass::Progress;
-use room::Room;
-use sharded_lru::Admitted;
 use statistics::Statistics;
 
 // What planning wrote: so many bytes to the plan buffer and to the send buffer; and how many responses are skipped and then taken.
-#[derive(Clone, Copy)]
+#[derive(Clone, Copy, PartialEq, Eq, Debug)]
 pub struct Written {
     pub plan: usize,
     pub send: usize,
@@ -36,20 +31,11 @@ pub struct Written {
     pub count: usize,
 }
 
-// What planning comes to.
-#[derive(Clone, Copy)]
-pub enum Pipelined {
-    Done(Written),
-    // The call record is wrong at this offset.
-    BadRecord(usize),
-    // The number of another cause; everything is left as it was.
-    Refused(u64),
-}
-
 // What planning returns: with the counts, which it was given by value.
 #[derive(Clone, Copy)]
 pub struct CachedPipeline {
-    pub answer: Pipelined,
+    // Where a cause refuses it, everything is left as it was.
+    pub answer: Result<Written, Cause>,
     pub counts: Statistics,
 }
 
@@ -92,16 +78,8 @@ fn is_short(
         → result ≡ (ltb plan (length (plan_bytes (setup_now g) rows when.clock when.epoch g transaction (commands_of bytes.now k))) || ltb send
         (length (send_bytes (setup_now g) rows when.clock when.epoch g transaction (commands_of bytes.now k)))) }
 {
-    let whole = Room {
-        left: plan,
-        short: false,
-    };
-    let p = room::spend(whole, planning::PLAN_HEAD);
-    let empty = Room {
-        left: send,
-        short: false,
-    };
-    let q = room::spend(empty, planning_send_len::wrap_len(transaction));
+    let p = room::spend(Some(plan), planning::PLAN_HEAD);
+    let q = room::spend(Some(send), planning_send_len::wrap_len(transaction));
     planning_dry_pass::dry_pass(bytes, k, arena, g, when, p, q, seen)
 }
 
@@ -140,17 +118,17 @@ fn write_pipeline(
     let after = y.counts;
     let written = written_of(transaction, y.to, end, y.sent);
     CachedPipeline {
-        answer: Pipelined::Done(written),
+        answer: Ok(written),
         counts: after,
     }
 }
 
 // Planning refused by a cause that leaves everything as it was.
-fn refused(cause: u64, counts: Statistics) -> CachedPipeline
-    ensures { (result.answer ≡ Refused cause) × (result.counts ≡ counts) }
+fn refused(cause: Cause, counts: Statistics) -> CachedPipeline
+    ensures { (result.answer ≡ Err cause) × (result.counts ≡ counts) }
 {
     CachedPipeline {
-        answer: Pipelined::Refused(cause),
+        answer: Err(cause),
         counts,
     }
 }
@@ -166,7 +144,7 @@ fn plan_seen(
     counts: Statistics,
     seen: &[u64],
 ) -> CachedPipeline
-    requires { Filtered g arena.old seen.now × (length bytes.now ≤ max_bytes) × (check_def bytes.now ≡ Fine) }
+    requires { Filtered g arena.old seen.now × (length bytes.now ≤ max_bytes) × (check_def bytes.now ≡ Ok tt) }
     ensures { (rows : ℕ → Row) (next : ℕ) → Lent g arena.old rows
         → Leaves (recorded when.clock when.epoch bytes.now plan.old send.old
         (holding arena.old (counts_of counts) next) g rows (record_at bytes.now)) arena.new plan.new
@@ -174,13 +152,13 @@ fn plan_seen(
 {
     let k = cursor::commands_of(bytes);
     if planning_ask::any_late(bytes, k, g, when.clock) {
-        return refused(config::LATE_EXPIRY, counts);
+        return refused(Cause::LateExpiry, counts);
     }
     let transaction = cursor::is_transaction(bytes);
     let n = plan.len();
     let m = send.len();
     if is_short(bytes, k, transaction, arena, g, when, n, m, seen) {
-        return refused(config::SHORT_BUFFER, counts);
+        return refused(Cause::ShortBuffer, counts);
     }
     write_pipeline(
         arena,
@@ -206,7 +184,7 @@ fn plan_filtered(
     when: Now,
     counts: Statistics,
 ) -> CachedPipeline
-    requires { Arena g arena.old × (length bytes.now ≤ max_bytes) × (check_def bytes.now ≡ Fine) }
+    requires { Arena g arena.old × (length bytes.now ≤ max_bytes) × (check_def bytes.now ≡ Ok tt) }
     ensures { (rows : ℕ → Row) (next : ℕ) → Lent g arena.old rows
         → Leaves (recorded when.clock when.epoch bytes.now plan.old send.old
         (holding arena.old (counts_of counts) next) g rows (record_at bytes.now)) arena.new plan.new
@@ -227,7 +205,7 @@ fn plan_record(
     when: Now,
     counts: Statistics,
 ) -> CachedPipeline
-    requires { Arena g arena.old × (length bytes.now ≤ max_bytes) × (check_def bytes.now ≡ Fine) }
+    requires { Arena g arena.old × (length bytes.now ≤ max_bytes) × (check_def bytes.now ≡ Ok tt) }
     ensures { (rows : ℕ → Row) (next : ℕ) → Lent g arena.old rows
         → Leaves (recorded when.clock when.epoch bytes.now plan.old send.old
         (holding arena.old (counts_of counts) next) g rows (record_at bytes.now)) arena.new plan.new
@@ -256,34 +234,30 @@ fn plan_admitted(
         (holding arena.old (counts_of counts) next) g rows) arena.new plan.new send.new result }
 {
     if config::MAX_BYTES < bytes.len() {
-        return refused(config::TOO_LONG, counts);
+        return refused(Cause::TooLong, counts);
     }
     match call_record::check(bytes) {
-        Checked::Wrong(o) => CachedPipeline {
-            answer: Pipelined::BadRecord(o),
-            counts,
-        },
-        Checked::Fine => plan_record(arena, plan, send, bytes, g, when, counts),
+        Err(wrong) => refused(Cause::BadRecord(wrong.at), counts),
+        Ok(()) => plan_record(arena, plan, send, bytes, g, when, counts),
     }
 }
 
 // Plans the commands of a call record: what resolving needs goes to the plan buffer, what is sent to the send buffer.
 pub fn get_cached_pipeline(
     arena: &mut [u8],
-    size: u64,
-    mode: u64,
-    ttl: u64,
+    cache_config: CacheConfig,
     when: Now,
     bytes: &[u8],
     plan: &mut [u8],
     send: &mut [u8],
     counts: Statistics,
 ) -> CachedPipeline
-    ensures { (next : ℕ) → Leaves (plan_call size mode ttl when.clock when.epoch bytes.now plan.old send.old
+    ensures { (next : ℕ) → Leaves (plan_call cache_config.size cache_config.mode cache_config.ttl when.clock when.epoch bytes.now plan.old send.old
         (holding arena.old (counts_of counts) next)) arena.new plan.new send.new result }
 {
-    match sharded_lru::admit(arena, size, mode, ttl) {
-        Admitted::Refused(n) => refused(n, counts),
-        Admitted::Admits(g) => plan_admitted(arena, plan, send, bytes, g, when, counts),
+    // Kept: a match, since a refusal is returned with the counts that were given, which `?` cannot add.
+    match sharded_lru::admit(arena, cache_config) {
+        Err(cause) => refused(cause, counts),
+        Ok(g) => plan_admitted(arena, plan, send, bytes, g, when, counts),
     }
 }

@@ -2,6 +2,7 @@
 -- adds.
 -- Assumes nothing.
 use Rattle.std.proofs.Common.{◌≡◌, ℕ, ◌+◌, ◌^◌, ◌<◌, Bool, true, false, cond, ltb, List, [], ◌∷◌, length, sym, refl, ap, ◌∙◌, mod-eq_of_lt, arith}
+use Rattle.std.specs.Prelude.{Result, Ok, Err}
 use mathlib.Core.Option.{none}
 use native.Mathlib.Nat.{mod-add-mod}
 use Rattle.buffer.specs.Same.{Bytes}
@@ -11,8 +12,7 @@ use Rattle.config.specs.Config.{checked}
 use Rattle.config.specs.declared.Settings.{Settings}
 use Rattle.call_record.specs.Record.{Record}
 use Rattle.call_record.specs.Check.{check_def}
-use Rattle.call_record.specs.declared.Checked.{Checked}
-use Rattle.call_record.specs.declared.Checked.TheVariants.{Fine as Right, Wrong}
+use Rattle.format.specs.declared.Wrong.{Wrong}
 use Rattle.cursor.specs.At.{record_at}
 use Rattle.resp3.specs.Ends.{is_value}
 use Rattle.resp3.specs.Decode as resp
@@ -205,10 +205,10 @@ module _ (c : Counts) where
         (answers-more (setup_now g) _ (book_of rows h))
         ∙ pipelined-more g rows r _
 
-    judged-more : (g : Settings) (rows : ℕ → Row) (k : Checked) → plans.judged t e s d f (more_held h) g rows k ≡ more_left (plans.judged t e s d f h g rows k)
+    judged-more : (g : Settings) (rows : ℕ → Row) (k : Result (Unit {0}) Wrong) → plans.judged t e s d f (more_held h) g rows k ≡ more_left (plans.judged t e s d f h g rows k)
     unfolding plans.judged
-    judged-more g rows Right = recorded_more g rows (record_at s)
-    judged-more g rows (Wrong o) = refl
+    judged-more g rows (Ok u) = recorded_more g rows (record_at s)
+    judged-more g rows (Err w) = refl
 
     short-more : (long : Bool) (g : Settings) (rows : ℕ → Row) (x : plans.Returned)
         → cond long (plans.refusal t e s d f (more_held h) x) (plans.judged t e s d f (more_held h) g rows (check_def s))

@@ -1,25 +1,25 @@
 -- What the exported functions return and leave, from what the calls below them return. Numbers and bytes alone cross the border. Assumes nothing: these are
 -- definitions.
-use Rattle.std.specs.Prelude.{ℕ, ◌-◌, []}
+use Rattle.std.specs.Prelude.{ℕ, ◌-◌, [], Result, Ok, Err, Option as Maybe, Some, None}
 use Rattle.std.proofs.Math.Option.{Option, none, some}
 use Rattle.buffer.specs.Same.{Bytes}
 use Rattle.buffer.specs.Part.{part}
+use Rattle.config.specs.Causes.{number}
+use Rattle.config.specs.declared.Cause.{Cause}
+use Rattle.cursor.specs.declared.Range.{Range}
 use Rattle.book.specs.Book.{Counts, lookup, store, invalidate}
 use Rattle.call_entry.specs.Entered.{no_cause, holding}
 use Rattle.single_calls.specs.Single.{Return, single_call}
 use Rattle.single_calls.specs.declared.NewCache.{NewCache}
-use Rattle.single_calls.specs.declared.NewCache.TheVariants.{Fresh, Refused as NotSetUp}
-use Rattle.single_calls.specs.declared.Found.{Found}
-use Rattle.single_calls.specs.declared.Found.TheVariants.{Hit, Miss, Denied}
 use Rattle.caching.specs.declared.RedisCacheSetup.{RedisCacheSetup}
 use Rattle.caching.specs.declared.RedisCacheLookup.{RedisCacheLookup}
 
 -- ---- setup
 
 -- the cause's number, the epoch taken and the next number; a setup that is refused takes none
-abbrev pub setup_return : NewCache → RedisCacheSetup
-setup_return (Fresh epoch next) = record { cause = no_cause; epoch = epoch; next = next }
-setup_return (NotSetUp n) = record { cause = n; epoch = 0; next = 0 }
+abbrev pub setup_return : Result NewCache Cause → RedisCacheSetup
+setup_return (Ok fresh) = record { cause = no_cause; epoch = fresh.epoch; next = fresh.next }
+setup_return (Err cause) = record { cause = number cause; epoch = 0; next = 0 }
 
 -- ---- lookup
 
@@ -34,21 +34,21 @@ bytes_of (some v) = v
 bytes_of none = []
 
 -- what an answer is returned as
-abbrev pub lookup_return : Found → RedisCacheLookup
-lookup_return (Hit from to) = record { cause = no_cause; hit = 1 }
-lookup_return Miss = record { cause = no_cause; hit = 0 }
-lookup_return (Denied n) = record { cause = n; hit = 0 }
+abbrev pub lookup_return : Result (Maybe Range) Cause → RedisCacheLookup
+lookup_return (Ok (Some r)) = record { cause = no_cause; hit = 1 }
+lookup_return (Ok None) = record { cause = no_cause; hit = 0 }
+lookup_return (Err cause) = record { cause = number cause; hit = 0 }
 
 -- where the bytes that it serves begin, and those bytes; a part of no bytes at the arena's start where there are none
-abbrev pub start_of : Found → ℕ
-start_of (Hit from to) = from
-start_of Miss = 0
-start_of (Denied n) = 0
+abbrev pub start_of : Result (Maybe Range) Cause → ℕ
+start_of (Ok (Some r)) = r.start
+start_of (Ok None) = 0
+start_of (Err cause) = 0
 
-abbrev pub served_bytes : Bytes → Found → Bytes
-served_bytes s (Hit from to) = part s from (to - from)
-served_bytes s Miss = []
-served_bytes s (Denied n) = []
+abbrev pub served_bytes : Bytes → Result (Maybe Range) Cause → Bytes
+served_bytes s (Ok (Some r)) = part s r.start (r.end - r.start)
+served_bytes s (Ok None) = []
+served_bytes s (Err cause) = []
 
 -- ---- the single calls of these arguments, by a caller who holds the arena s and these counts. What a call is not given, the next number and a store's counts,
 -- may be any

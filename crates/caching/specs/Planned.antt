@@ -1,6 +1,8 @@
 -- A planning as the exported function is given it, and what is returned. Numbers and bytes alone cross the border. Assumes nothing: these are definitions.
 use Rattle.std.specs.Prelude.{◌≡◌, ℕ}
 use Rattle.buffer.specs.Same.{Bytes}
+use Rattle.config.specs.declared.Cause.{Cause}
+use Rattle.config.specs.declared.Cause.TheVariants.{BadRecord}
 use Rattle.book.specs.Book.{Counts}
 use Rattle.statistics.specs.declared.Statistics.{Statistics}
 use Rattle.statistics.specs.Counts.{more}
@@ -9,6 +11,11 @@ use Rattle.statistics.specs.OfBook.{counts_of}
 use Rattle.cache_manager.specs.Pipeline.{Returned, refused_as, wrong_at, wrote, cause_of, Left, plan_call}
 use Rattle.caching.specs.declared.plan_call.RedisCachePlan.{RedisCachePlan}
 use Rattle.caching.specs.declared.plan_call.PlanAdded.{PlanAdded}
+
+-- cause 2's offset
+abbrev pub offset_of : Cause → ℕ
+offset_of (BadRecord at) = at
+offset_of cause = 0
 
 -- a refusal: the cause's number, and cause 2's offset; nothing is written, and nothing is sent
 abbrev pub refused_return : ℕ → ℕ → RedisCachePlan

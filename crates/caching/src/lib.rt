@@ -22,8 +22,9 @@ ghost use Rattle.caching.specs.Added.{none_yet, added_by, AddedLeft, LookupGiven
 ghost use Rattle.caching.specs.Place.{place_by, PartAt};
 ghost use Rattle.caching.specs.Exported.{setup_return, flag_of, bytes_of, lookup_return, start_of, served_bytes, lookup_by, store_by, invalidate_by};
 
-use config::Now;
-use single_calls::{Answered, Found, Invalidated, NewCache};
+use config::{CacheConfig, Cause, Now};
+use cursor::Range;
+use single_calls::{Invalidated, NewCache};
 use statistics::{CacheStatistics, Statistics};
 
 // What setup returns: the number of the cause that refuses it, or 0; the epoch taken; the next epoch number.
@@ -57,17 +58,17 @@ pub struct LookupAdded {
     pub adds: Statistics,
 }
 
-fn setup_return(cache: NewCache) -> RedisCacheSetup
+fn setup_return(cache: Result<NewCache, Cause>) -> RedisCacheSetup
     ensures { result ≡ setup_return cache }
 {
     match cache {
-        NewCache::Fresh(epoch, next) => RedisCacheSetup {
+        Ok(fresh) => RedisCacheSetup {
             cause: single_calls::NO_CAUSE,
-            epoch,
-            next,
+            epoch: fresh.epoch,
+            next: fresh.next,
         },
-        NewCache::Refused(n) => RedisCacheSetup {
-            cause: n,
+        Err(cause) => RedisCacheSetup {
+            cause: u64::from(cause),
             epoch: 0,
             next: 0,
         },
@@ -75,28 +76,32 @@ fn setup_return(cache: NewCache) -> RedisCacheSetup
 }
 
 // The cause's number in an answer.
-fn answer_number(answer: Answered) -> u64
+// Kept: a function, since the number where no cause refuses a call is C's alone, and no `From` of a Result can be ours.
+fn answer_number(answer: Result<(), Cause>) -> u64
     ensures { result ≡ answer_number answer }
 {
     match answer {
-        Answered::Done => single_calls::NO_CAUSE,
-        Answered::Refused(n) => n,
+        Ok(()) => single_calls::NO_CAUSE,
+        Err(cause) => u64::from(cause),
     }
 }
 
-fn lookup_return(found: Found) -> RedisCacheLookup
+fn lookup_return(found: Result<Option<Range>, Cause>) -> RedisCacheLookup
     ensures { result ≡ lookup_return found }
 {
     match found {
-        Found::Hit { from: _, to: _ } => RedisCacheLookup {
+        Ok(Some(_)) => RedisCacheLookup {
             cause: single_calls::NO_CAUSE,
             hit: 1,
         },
-        Found::Miss => RedisCacheLookup {
+        Ok(None) => RedisCacheLookup {
             cause: single_calls::NO_CAUSE,
             hit: 0,
         },
-        Found::Denied(n) => RedisCacheLookup { cause: n, hit: 0 },
+        Err(refusal) => {
+            let cause = u64::from(refusal);
+            RedisCacheLookup { cause, hit: 0 }
+        }
     }
 }
 
@@ -138,15 +143,15 @@ fn comes_to(done: Invalidated) -> Added
 }
 
 // The bytes that a lookup serves, as a part of the arena.
-fn served<'a>(arena: &'a [u8], found: Found) -> &'a [u8]
+fn served<'a>(arena: &'a [u8], found: Result<Option<Range>, Cause>) -> &'a [u8]
     requires { FoundIn (length arena.now) found }
     ensures bytes { result.now ≡ served_bytes arena.now found }
     ensures place { (result.ref_ptr.0 ≡ arena.entry.ref_ptr.0) × (result.ref_ptr.1 ≡ start_of found + arena.entry.ref_ptr.1) }
 {
     match found {
-        Found::Hit { from, to } => &arena[from..to],
-        Found::Miss => &arena[0..0],
-        Found::Denied(_) => &arena[0..0],
+        Ok(Some(r)) => &arena[r.start..r.end],
+        Ok(None) => &arena[0..0],
+        Err(_) => &arena[0..0],
     }
 }
 
@@ -161,7 +166,7 @@ pub extern "C" fn redis_cache_setup(
     ensures answer { result ≡ setup_return (set_up (checked size mode ttl (length arena.old))) }
     ensures bytes { arena.new ≡ fresh_arena (checked size mode ttl (length arena.old)) arena.old }
 {
-    setup_return(single_calls::setup(arena, size, mode, ttl))
+    setup_return(single_calls::setup(arena, CacheConfig { size, mode, ttl }))
 }
 
 // Stores the value for the command key under the key.
@@ -183,15 +188,16 @@ pub extern "C" fn redis_cache_store(
         arena.new ≡ (store_by size mode ttl epoch key.now command.now value.now expiry
         arena.old lent next).held.arena }
 {
-    answer_number(single_calls::store(arena, size, mode, ttl, epoch, key, command, value, expiry))
+    let cache_config = CacheConfig { size, mode, ttl };
+    answer_number(single_calls::store(arena, cache_config, epoch, key, command, value, expiry))
 }
 
 // Drops the key's item, and tells what that adds to the counts.
-fn invalidate_counting(arena: &mut [u8], size: u64, mode: u64, ttl: u64, key: &[u8]) -> Added
+fn invalidate_counting(arena: &mut [u8], cache_config: CacheConfig, key: &[u8]) -> Added
     ensures { (was : Statistics) (next : ℕ) → Counted (counts_of was) →
-        AddedLeft (invalidate_by size mode ttl key.now arena.old (counts_of was) next) arena.new was result }
+        AddedLeft (invalidate_by cache_config.size cache_config.mode cache_config.ttl key.now arena.old (counts_of was) next) arena.new was result }
 {
-    comes_to(single_calls::invalidate(arena, size, mode, ttl, key, none_yet()))
+    comes_to(single_calls::invalidate(arena, cache_config, key, none_yet()))
 }
 
 // Drops the key's item.
@@ -213,7 +219,7 @@ pub extern "C" fn redis_cache_invalidate(
         arena.old (counts_of counts.old) next).held.counts }
 {
     counted(*counts);
-    let r = invalidate_counting(arena, size, mode, ttl, key);
+    let r = invalidate_counting(arena, CacheConfig { size, mode, ttl }, key);
     statistics::increase(counts, r.adds);
     r.cause
 }
@@ -221,27 +227,23 @@ pub extern "C" fn redis_cache_invalidate(
 // Looks the command key's value up under the key, hands out the value and the arena, and tells what that adds to the counts.
 fn lookup_counting<'a>(
     arena: &'a mut [u8],
-    size: u64,
-    mode: u64,
-    ttl: u64,
-    clock: u64,
-    epoch: u64,
+    cache_config: CacheConfig,
+    when: Now,
     key: &[u8],
     command: &[u8],
     value: &mut &'a [u8],
     whole: &mut &'a [u8],
 ) -> LookupAdded
     ensures given { (was : Statistics) (next : ℕ) → Counted (counts_of was) →
-        LookupGiven (lookup_by size mode ttl clock epoch key.now command.now
+        LookupGiven (lookup_by cache_config.size cache_config.mode cache_config.ttl when.clock when.epoch key.now command.now
         arena.old (counts_of was) next) value.new.now whole.new.now was result }
     ensures is_part { (lent : Counts) (next : ℕ) →
-        PartAt (place_by size mode ttl clock epoch key.now command.now arena.old lent next)
+        PartAt (place_by cache_config.size cache_config.mode cache_config.ttl when.clock when.epoch key.now command.now arena.old lent next)
         value.new.ref_ptr value.new.now arena.entry.ref_ptr (length arena.old) whole.new.now }
     ensures is_arena { whole.new.ref_ptr ≡ arena.entry.ref_ptr }
 {
     let none = none_yet();
-    let when = Now { clock, epoch };
-    let r = single_calls::lookup(arena, size, mode, ttl, when, key, command, none);
+    let r = single_calls::lookup(arena, cache_config, when, key, command, none);
     let found = r.found;
     let adds = r.counts;
     let t = &arena[..];
@@ -289,9 +291,9 @@ pub extern "C" fn redis_cache_lookup<'a>(
         arena.old (counts_of counts.old) next).held.counts }
 {
     counted(*counts);
-    let r = lookup_counting(
-        arena, size, mode, ttl, clock, epoch, key, command, value, whole,
-    );
+    let cache_config = CacheConfig { size, mode, ttl };
+    let when = Now { clock, epoch };
+    let r = lookup_counting(arena, cache_config, when, key, command, value, whole);
     statistics::increase(counts, r.adds);
     r.answer
 }

@@ -4,11 +4,11 @@ ghost use Rattle.std.specs.Prelude.{◌≡◌, ℕ};
 ghost use Rattle.book.specs.Counted.{Counted};
 ghost use Rattle.statistics.specs.OfBook.{counts_of};
 ghost use Rattle.cache_manager.specs.Pipeline.{returned_of};
-ghost use Rattle.caching.specs.Planned.{refused_return, plan_return, plan_by, PlanLeft};
+ghost use Rattle.caching.specs.Planned.{offset_of, refused_return, plan_return, plan_by, PlanLeft};
 
 use crate::{counted, none_yet};
-use cache_manager::Pipelined;
-use config::Now;
+use cache_manager::Written;
+use config::{CacheConfig, Cause, Now};
 use statistics::Statistics;
 
 // What planning returns: the number of the cause that refuses it, or 0; cause 2's offset; how many bytes of the plan buffer and of the send buffer are
@@ -45,11 +45,21 @@ fn refusal(cause: u64, at: u64) -> RedisCachePlan
     }
 }
 
-fn plan_return(answer: Pipelined) -> RedisCachePlan
+// Where a call record is wrong.
+fn offset_of(cause: Cause) -> u64
+    ensures { result ≡ offset_of cause }
+{
+    match cause {
+        Cause::BadRecord(at) => at as u64,
+        _ => 0,
+    }
+}
+
+fn plan_return(answer: Result<Written, Cause>) -> RedisCachePlan
     ensures { result ≡ plan_return (returned_of answer) }
 {
     match answer {
-        Pipelined::Done(w) => RedisCachePlan {
+        Ok(w) => RedisCachePlan {
             cause: single_calls::NO_CAUSE,
             at: 0,
             plan: w.plan as u64,
@@ -57,32 +67,25 @@ fn plan_return(answer: Pipelined) -> RedisCachePlan
             offset: w.offset as u64,
             count: w.count as u64,
         },
-        Pipelined::BadRecord(at) => refusal(config::BAD_RECORD, at as u64),
-        Pipelined::Refused(n) => refusal(n, 0),
+        Err(cause) => refusal(u64::from(cause), offset_of(cause)),
     }
 }
 
 // Looks the record's commands up, writes the plan and what is to be sent, and tells what that adds to the counts.
 fn plan_counting(
     arena: &mut [u8],
-    size: u64,
-    mode: u64,
-    ttl: u64,
-    clock: u64,
-    epoch: u64,
+    cache_config: CacheConfig,
+    when: Now,
     bytes: &[u8],
     plan: &mut [u8],
     send: &mut [u8],
 ) -> PlanAdded
     ensures { (was : Statistics) (next : ℕ) → Counted (counts_of was) →
-        PlanLeft (plan_by size mode ttl clock epoch bytes.now plan.old send.old
+        PlanLeft (plan_by cache_config.size cache_config.mode cache_config.ttl when.clock when.epoch bytes.now plan.old send.old
         arena.old (counts_of was) next) arena.new plan.new send.new was result }
 {
     let none = none_yet();
-    let when = Now { clock, epoch };
-    let r = cache_manager::get_cached_pipeline(
-        arena, size, mode, ttl, when, bytes, plan, send, none,
-    );
+    let r = cache_manager::get_cached_pipeline(arena, cache_config, when, bytes, plan, send, none);
     let answer = r.answer;
     let adds = r.counts;
     PlanAdded {
@@ -122,7 +125,9 @@ pub extern "C" fn redis_cache_plan(
         arena.old (counts_of counts.old) next).send }
 {
     counted(*counts);
-    let r = plan_counting(arena, size, mode, ttl, clock, epoch, bytes, plan, send);
+    let cache_config = CacheConfig { size, mode, ttl };
+    let when = Now { clock, epoch };
+    let r = plan_counting(arena, cache_config, when, bytes, plan, send);
     statistics::increase(counts, r.adds);
     r.answer
 }

@@ -6,14 +6,15 @@ ghost use Rattle.caching.specs.Added.{AddedLeft};
 ghost use Rattle.caching.specs.Pushed.{push_by};
 
 use crate::{Added, comes_to, counted, none_yet};
+use config::CacheConfig;
 use statistics::Statistics;
 
 // Does what a push asks for, and tells what that adds to the counts.
-fn push_counting(arena: &mut [u8], size: u64, mode: u64, ttl: u64, bytes: &[u8]) -> Added
+fn push_counting(arena: &mut [u8], cache_config: CacheConfig, bytes: &[u8]) -> Added
     ensures { (was : Statistics) (next : ℕ) → Counted (counts_of was) →
-        AddedLeft (push_by size mode ttl bytes.now arena.old (counts_of was) next) arena.new was result }
+        AddedLeft (push_by cache_config.size cache_config.mode cache_config.ttl bytes.now arena.old (counts_of was) next) arena.new was result }
 {
-    comes_to(push::handle_push(arena, size, mode, ttl, bytes, none_yet()))
+    comes_to(push::handle_push(arena, cache_config, bytes, none_yet()))
 }
 
 // Does what a push asks for.
@@ -34,7 +35,7 @@ pub extern "C" fn redis_cache_push(
         arena.old (counts_of counts.old) next).held.counts }
 {
     counted(*counts);
-    let r = push_counting(arena, size, mode, ttl, bytes);
+    let r = push_counting(arena, CacheConfig { size, mode, ttl }, bytes);
     statistics::increase(counts, r.adds);
     r.cause
 }

@@ -3,8 +3,8 @@ ghost use Rattle.std.specs.Prelude.{◌≡◌, ℕ};
 ghost use Rattle.book.specs.Book.{Counts};
 ghost use Rattle.caching.specs.Resolved.{resolve_return, answer_return, resolve_by};
 
-use caching_cmd::ResolveAnswer;
-use config::Now;
+use caching_cmd::Answered;
+use config::{CacheConfig, Cause, Now};
 
 // What resolving returns: the number of the cause that refuses it, or 0; how many bytes of the answer buffer are the result; how many stores were
 // refused as 11.
@@ -16,17 +16,17 @@ pub struct RedisCacheResolve {
     pub refused: u64,
 }
 
-fn resolve_return(answer: ResolveAnswer) -> RedisCacheResolve
+fn resolve_return(answer: Result<Answered, Cause>) -> RedisCacheResolve
     ensures { result ≡ answer_return answer }
 {
     match answer {
-        ResolveAnswer::Answered(written, stores) => RedisCacheResolve {
+        Ok(a) => RedisCacheResolve {
             cause: single_calls::NO_CAUSE,
-            answer: written as u64,
-            refused: stores,
+            answer: a.written as u64,
+            refused: a.refused,
         },
-        ResolveAnswer::Refused(n) => RedisCacheResolve {
-            cause: n,
+        Err(cause) => RedisCacheResolve {
+            cause: u64::from(cause),
             answer: 0,
             refused: 0,
         },
@@ -57,5 +57,6 @@ pub extern "C" fn redis_cache_resolve<'a>(
         arena.old lent next).buffer }
 {
     let when = Now { clock, epoch };
-    resolve_return(caching_cmd::resolve(arena, size, mode, ttl, plan, replies, when, answer))
+    let cache_config = CacheConfig { size, mode, ttl };
+    resolve_return(caching_cmd::resolve(arena, cache_config, plan, replies, when, answer))
 }

@@ -4,7 +4,7 @@ ghost use Rattle.std.specs.Prelude.{◌≡◌, length};
 ghost use Rattle.served.specs.Served.{served_call, served_buffer};
 ghost use Rattle.caching.specs.ServedAlone.{served_return};
 
-use served::ServedAnswer;
+use config::Cause;
 
 // What it returns: the number of the cause that refuses it, or 0; how many bytes of the answer buffer are the result; 1 where some command needs
 // replies, else 0.
@@ -16,22 +16,22 @@ pub struct RedisCacheServed {
     pub replies: u64,
 }
 
-fn served_return(answer: ServedAnswer) -> RedisCacheServed
+fn served_return(answer: Result<Option<usize>, Cause>) -> RedisCacheServed
     ensures { result ≡ served_return answer }
 {
     match answer {
-        ServedAnswer::Answered(written) => RedisCacheServed {
+        Ok(Some(written)) => RedisCacheServed {
             cause: single_calls::NO_CAUSE,
             answer: written as u64,
             replies: 0,
         },
-        ServedAnswer::NeedsReplies => RedisCacheServed {
+        Ok(None) => RedisCacheServed {
             cause: single_calls::NO_CAUSE,
             answer: 0,
             replies: 1,
         },
-        ServedAnswer::Refused(n) => RedisCacheServed {
-            cause: n,
+        Err(cause) => RedisCacheServed {
+            cause: u64::from(cause),
             answer: 0,
             replies: 0,
         },

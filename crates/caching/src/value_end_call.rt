@@ -4,7 +4,7 @@ ghost use Rattle.std.specs.Prelude.{◌≡◌};
 ghost use Rattle.resp3_prefix.specs.Begun.{first_value};
 ghost use Rattle.caching.specs.ValueEnd.{value_end_return};
 
-use resp3_prefix::Begun;
+use resp3_prefix::NotWhole;
 
 // The verdict: 0 complete, and its length; 1 more bytes are needed, and how many at least; 2 no value begins so.
 #[repr(C)]
@@ -14,19 +14,19 @@ pub struct RedisCacheValueEnd {
     pub bytes: u64,
 }
 
-fn value_end_return(x: Begun) -> RedisCacheValueEnd
+fn value_end_return(x: Result<usize, NotWhole>) -> RedisCacheValueEnd
     ensures { result ≡ value_end_return x }
 {
     match x {
-        Begun::Ends(e) => RedisCacheValueEnd {
+        Ok(e) => RedisCacheValueEnd {
             verdict: 0,
             bytes: e as u64,
         },
-        Begun::Lacks(k) => RedisCacheValueEnd {
+        Err(NotWhole::Lacks(k)) => RedisCacheValueEnd {
             verdict: 1,
             bytes: k as u64,
         },
-        Begun::Never => RedisCacheValueEnd {
+        Err(NotWhole::Never) => RedisCacheValueEnd {
             verdict: 2,
             bytes: 0,
         },

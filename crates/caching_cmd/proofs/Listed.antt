@@ -1,5 +1,5 @@
 -- The passes over the list of replies, put together: what they find and do is what becomes of the plan. Assumes nothing.
-use Rattle.std.specs.Prelude.{◌≡◌, refl, Bool, true, false, not, [], ℕ, ◌≤◌, length}
+use Rattle.std.specs.Prelude.{◌≡◌, refl, Option, Bool, true, false, not, [], ℕ, ◌≤◌, length}
 use Rattle.std.proofs.Common.{sym, ap, ap₂, subst, ◌∙◌, arith}
 use Rattle.std.proofs.Math.Option.{some}
 use Rattle.buffer.specs.Same.{Bytes}
@@ -19,14 +19,14 @@ use Rattle.resolving_walk.specs.Same.{walked_of, result_head}
 use Rattle.resolving_walk.proofs.WalkLaws.{plan-walk, no-list}
 use Rattle.resolving_step.specs.declared.Walk.{Walk}
 use Rattle.room.specs.Room.{spent, whole}
-use Rattle.room.specs.declared.Room.{Room}
 use Rattle.resolving_passes.specs.declared.Dry.{Dry}
 use Rattle.resolving_passes.specs.declared.Dry.TheVariants.{Fits, Short, Wrong}
 use Rattle.resolving_passes.specs.Passes.{dry_of, Starts, Begins, DryIs, Fine}
 use Rattle.resolving_store.specs.Stores.{StorePass}
-use Rattle.caching_cmd.specs.declared.ResolveAnswer.{ResolveAnswer}
-use Rattle.caching_cmd.specs.declared.ResolveAnswer.TheVariants.{Refused}
-use Rattle.caching_cmd.specs.declared.Found.TheVariants.{No}
+use Rattle.config.specs.declared.Cause.{Cause}
+use Rattle.config.specs.declared.Cause.TheVariants.{ShortAnswer}
+use Rattle.caching_cmd.specs.declared.Answered.{Answered}
+use Rattle.std.specs.Prelude.{Result, Err, None}
 use Rattle.caching_cmd.specs.Parts.{FoundIs, start_at, Listed, StoredIf, StoredFor, ShapeRefused, AllWritten, Judged}
 use Rattle.caching_cmd.specs.Settle.{dry_for}
 use Rattle.caching_cmd.proofs.Settle.{dry-says, fine-dry, fine-head, settle-wrong, settle-short, settle-fits}
@@ -43,15 +43,15 @@ begins plan list first c e ok l =
     }
 
 -- what is left of the buffer behind the head
-pub room-left : (n h k : ℕ) (room : Room) → room ≡ spent (whole n) h → h ≡ k → room ≡ spent (whole n) k
+pub room-left : (n h k : ℕ) (room : Option ℕ) → room ≡ spent (whole n) h → h ≡ k → room ≡ spent (whole n) k
 room-left n h k room e q = e ∙ ap (spent (whole n)) q
 
 -- where all fits, the answer pass has room
-pub fine-all : (plan list : Bytes) (c : Walk) (mode : CacheMode) (clock n h : ℕ) (room : Room) (d : Dry) → room ≡ spent (whole n) h
+pub fine-all : (plan list : Bytes) (c : Walk) (mode : CacheMode) (clock n h : ℕ) (room : Option ℕ) (d : Dry) → room ≡ spent (whole n) h
     → DryIs plan list c mode clock room d → d ≡ Fits
     → Fine plan list c mode clock h n
 fine-all plan list c mode clock n h room d e f q ns es rs t =
-    fine-dry n h (walk mode clock ns es rs) (sym q ∙ f ns es rs t ∙ ap (λ (r : Room). dry_of r (walk mode clock ns es rs)) e)
+    fine-dry n h (walk mode clock ns es rs) (sym q ∙ f ns es rs t ∙ ap (λ (r : Option ℕ). dry_of r (walk mode clock ns es rs)) e)
 
 -- and so has the head
 pub head-fits : (plan list : Bytes) (c : Walk) (mode : CacheMode) (clock n h : ℕ) → Begins plan list c → Fine plan list c mode clock h n → h ≤ n
@@ -94,7 +94,7 @@ module _ (g : Settings) (epoch : ℕ) (plan list : Bytes) (first : Cursor) (c : 
   same : walk g.mode clock (read_plan plan).nodes none rs ≡ walked_of result
   same = plan-walk (read_plan plan) read.good g.mode clock v rs e
 
-  module _ (transaction : Bool) (k : ℕ) (room : Room) (d : Dry) (a : transaction ≡ (read_plan plan).transaction) (b : k ≡ (read_plan plan).commands)
+  module _ (transaction : Bool) (k : ℕ) (room : Option ℕ) (d : Dry) (a : transaction ≡ (read_plan plan).transaction) (b : k ≡ (read_plan plan).commands)
       (q : room ≡ spent (whole (length buffer)) (length (result_head transaction k))) (f : DryIs plan list c g.mode clock room d) where
     -- what the dry pass found of it
     dry-is : d ≡ dry_for (read_plan plan).transaction result (length buffer)
@@ -108,18 +108,18 @@ module _ (g : Settings) (epoch : ℕ) (plan list : Bytes) (first : Cursor) (c : 
       stored-as : (x : Dry) → d ≡ x → StoredFor g epoch plan list c clock x old new n
       stored-as x w = stored_same g epoch plan list c clock old new n x d (sym w) h
 
-      pub list-wrong : (after : Bytes) (r : ResolveAnswer) → d ≡ Wrong → ShapeRefused buffer after r
+      pub list-wrong : (after : Bytes) (r : Result Answered Cause) → d ≡ Wrong → ShapeRefused buffer after r
           → Judged g (read_plan plan).transaction epoch result old new buffer after r
       list-wrong after r w u =
           rw u.0
           (settle-wrong g (read_plan plan).transaction epoch old buffer result (walk g.mode clock (read_plan plan).nodes none rs) new after n same
           (sym w ∙ dry-is) (stored-as Wrong w (read_plan plan).nodes none rs here) u.1)
 
-      pub list-short : d ≡ Short → Judged g (read_plan plan).transaction epoch result old new buffer buffer (Refused short_answer)
+      pub list-short : d ≡ Short → Judged g (read_plan plan).transaction epoch result old new buffer buffer (Err ShortAnswer)
       list-short w =
           rw (stored-as Short w).0 (settle-short g (read_plan plan).transaction epoch old buffer result (sym w ∙ dry-is))
 
-      pub list-fits : (after : Bytes) (r : ResolveAnswer) → d ≡ Fits → AllWritten g plan list c clock transaction k n buffer after r
+      pub list-fits : (after : Bytes) (r : Result Answered Cause) → d ≡ Fits → AllWritten g plan list c clock transaction k n buffer after r
           → Judged g (read_plan plan).transaction epoch result old new buffer after r
       list-fits after r w u =
           let i : AllWritten g plan list c clock (read_plan plan).transaction k n buffer after r =
@@ -133,7 +133,7 @@ module _ (g : Settings) (epoch : ℕ) (plan list : Bytes) (first : Cursor) (c : 
           (many-answers plan read g.mode clock v) same (sym w ∙ dry-is) (stored-as Fits w (read_plan plan).nodes none rs here) z.1)
 
 -- where no list is found
-pub none_found : (plan replies : Bytes) (mode : CacheMode) (clock : ℕ) (v : Value) → FoundIs replies No (replies_of (read_plan plan).transaction v)
+pub none_found : (plan replies : Bytes) (mode : CacheMode) (clock : ℕ) (v : Value) → FoundIs replies None (replies_of (read_plan plan).transaction v)
     → resolve (plan_read (read_plan plan)) mode clock v ≡ cause7 []
 unfolding plan_read
 none_found plan replies mode clock v h = no-list (plan_read (read_plan plan)) mode clock v (goes-not replies (replies_of (read_plan plan).transaction v) h)

@@ -1,12 +1,14 @@
 -- A resolving as a call: from the settings, the plan and the replies, clock and epoch, the answer buffer and what the caller holds, to everything that
 -- comes out. Rules are docs/BEHAVIOUR.md's. Assumes nothing: these are the definitions that a reader has to believe.
-use Rattle.std.specs.Prelude.{◌≡◌, Bool, true, cond, List, ℕ, leb, length, replicate}
+use Rattle.std.specs.Prelude.{◌≡◌, Bool, true, cond, List, ℕ, leb, length, replicate, Result, Ok, Err}
 use Rattle.std.proofs.Math.Option.{Option, none, some}
 use Rattle.buffer.specs.Same.{Bytes}
 use Rattle.buffer.specs.Part.{put}
-use Rattle.config.specs.Causes.{bad_reply, bad_shape, short_answer, bad_plan}
+use Rattle.config.specs.Causes.{bad_reply, bad_plan, number}
 use Rattle.config.specs.Config.{checked}
 use Rattle.config.specs.declared.Settings.{Settings}
+use Rattle.config.specs.declared.Cause.{Cause}
+use Rattle.config.specs.declared.Cause.TheVariants.{BadShape, ShortAnswer}
 use Rattle.resp3.specs.Ends.{is_value}
 use Rattle.resp3.specs.Decode as resp
 use Rattle.book.specs.Book.{Setup, Row, Book, Answer}
@@ -19,21 +21,24 @@ use Rattle.plan.specs.Decode.{decode_plan}
 use Rattle.resolving_walk.specs.Commands.{plan_read}
 use Rattle.resolving.specs.Resolve.{Resolved, cause7, answered, resolve}
 use Rattle.resolving.specs.Result.{result_bytes, call_of}
-use Rattle.caching_cmd.specs.declared.ResolveAnswer.{ResolveAnswer}
-use Rattle.caching_cmd.specs.declared.ResolveAnswer.TheVariants.{Answered, Refused}
+use Rattle.caching_cmd.specs.declared.Answered.{Answered}
 
 -- the number of the cause that refuses the call, 0 for none; how many bytes the result has; and how many stores found no space (rule S11)
-abbrev pub cause_of : ResolveAnswer → ℕ
-cause_of (Answered written stores) = no_cause
-cause_of (Refused n) = n
+abbrev pub cause_of : Result Answered Cause → ℕ
+cause_of (Ok x) = no_cause
+cause_of (Err cause) = number cause
 
-abbrev pub written_of : ResolveAnswer → ℕ
-written_of (Answered written stores) = written
-written_of (Refused n) = 0
+abbrev pub written_of : Result Answered Cause → ℕ
+written_of (Ok x) = x.written
+written_of (Err cause) = 0
 
-abbrev pub stores_of : ResolveAnswer → ℕ
-stores_of (Answered written stores) = stores
-stores_of (Refused n) = 0
+abbrev pub stores_of : Result Answered Cause → ℕ
+stores_of (Ok x) = x.refused
+stores_of (Err cause) = 0
+
+-- so many bytes written, and so many stores that found no space
+abbrev pub answered_with : ℕ → ℕ → Result Answered Cause
+answered_with n m = Ok (record { written = n; refused = m })
 
 -- what comes out: these three, the answer buffer, and what the caller holds
 pub record ResolveReturn : Type 0 where
@@ -43,12 +48,12 @@ pub record ResolveReturn : Type 0 where
   pub buffer : Bytes
   pub held : Held
 
-abbrev pub returning : ResolveAnswer → Bytes → Held → ResolveReturn
+abbrev pub returning : Result Answered Cause → Bytes → Held → ResolveReturn
 returning r buffer h = record { cause = cause_of r; written = written_of r; stores = stores_of r; buffer = buffer; held = h }
 
 -- a refusal leaves everything as it was (rule G5)
 abbrev pub refused_as : ℕ → Bytes → Held → ResolveReturn
-refused_as n buffer h = returning (Refused n) buffer h
+refused_as n buffer h = record { cause = n; written = 0; stores = 0; buffer = buffer; held = h }
 
 -- ---- causes 7 and 8
 
@@ -67,12 +72,12 @@ refused_of none = 0
 refused_of (some said) = refusals said
 
 -- cause 7 is judged before cause 8 (rule C12)
-unfoldable pub answer_of : Setup → Bool → ℕ → Resolved → ℕ → Book → ResolveAnswer
-answer_of p transaction epoch (cause7 ss) room bk = Refused bad_shape
+unfoldable pub answer_of : Setup → Bool → ℕ → Resolved → ℕ → Book → Result Answered Cause
+answer_of p transaction epoch (cause7 ss) room bk = Err BadShape
 answer_of p transaction epoch (answered vs ss) room bk =
     cond (leb (length (result_bytes transaction vs)) room)
-    (Answered (length (result_bytes transaction vs)) (refused_of (reply_to p (call_of epoch (answered vs ss)) bk)))
-    (Refused short_answer)
+    (answered_with (length (result_bytes transaction vs)) (refused_of (reply_to p (call_of epoch (answered vs ss)) bk)))
+    (Err ShortAnswer)
 
 -- the answer buffer afterwards: all zeros under cause 7 (rule S12), untouched under 8, else the result with the buffer's own end behind it (rule G6)
 unfoldable pub buffer_after : Bool → Resolved → Bytes → Bytes
@@ -102,5 +107,5 @@ resolve_call size mode ttl plan replies clock epoch buffer h =
     h.arena
 
 -- an answer, an arena and a buffer are what comes out; a resolving takes no counts and no next number
-abbrev pub Comes : ResolveReturn → ResolveAnswer → Bytes → Bytes → Type 0
+abbrev pub Comes : ResolveReturn → Result Answered Cause → Bytes → Bytes → Type 0
 Comes t r arena buffer = (cause_of r ≡ t.cause) × (written_of r ≡ t.written) × (stores_of r ≡ t.stores) × (arena ≡ t.held.arena) × (buffer ≡ t.buffer)

@@ -1,6 +1,6 @@
 -- Resolvings on a cache of one key, computed: the order of the causes, what each leaves, the result and the stores. They lean on the definitions alone, with
 -- SipHash and RESP3 as they are. Assumes nothing.
-use Rattle.std.specs.Prelude.{◌≡◌, refl, ℕ, [], ◌∷◌, ◌++◌, replicate}
+use Rattle.std.specs.Prelude.{◌≡◌, refl, ℕ, [], ◌∷◌, ◌++◌, replicate, Err}
 use Prim.Native.String.{String}
 use Rattle.buffer.specs.Same.{Bytes}
 use Rattle.buffer.specs.Field.{le, le32, le64, read_le}
@@ -29,8 +29,8 @@ use Rattle.plan.specs.Decode.{decode-defs}
 use Rattle.resolving_walk.specs.Commands.{value_at, place_at, values_at, places_at, commands_of, plan_read}
 use Rattle.resolving.specs.Resolve.{resolve}
 use Rattle.resolving.specs.Result.{result_bytes}
-use Rattle.caching_cmd.specs.declared.ResolveAnswer.TheVariants.{Answered, Refused}
-use Rattle.caching_cmd.specs.Call.{ResolveReturn, returning, fits, told_to, refused_of, answer_of, buffer_after, resolved_on, planned, resolve_call}
+use Rattle.config.specs.declared.Cause.TheVariants.{BadShape, ShortAnswer}
+use Rattle.caching_cmd.specs.Call.{ResolveReturn, answered_with, returning, fits, told_to, refused_of, answer_of, buffer_after, resolved_on, planned, resolve_call}
 use Rattle.call_entry.specs.Entered.{on_rows, entered}
 
 -- one name that opens the whole call
@@ -81,17 +81,17 @@ unfolding case-defs
 six-next = refl
 
 -- 7 before 8, with the whole buffer zeroed
-seven-next : resolved no_commands (ascii "_\r\n") 2 (fresh_in 64) ≡ returning (Refused 7) (0 ∷ 0 ∷ []) (fresh_in 64)
+seven-next : resolved no_commands (ascii "_\r\n") 2 (fresh_in 64) ≡ returning (Err BadShape) (0 ∷ 0 ∷ []) (fresh_in 64)
 unfolding case-defs
 seven-next = refl
 
 -- 8: all is left
-eight-last : resolved no_commands (ascii "*0\r\n") 3 (fresh_in 64) ≡ returning (Refused 8) (9 ∷ 9 ∷ 9 ∷ []) (fresh_in 64)
+eight-last : resolved no_commands (ascii "*0\r\n") 3 (fresh_in 64) ≡ returning (Err ShortAnswer) (9 ∷ 9 ∷ 9 ∷ []) (fresh_in 64)
 unfolding case-defs
 eight-last = refl
 
 -- none: the result, and the unwritten end unchanged
-none_at_all : resolved no_commands (ascii "*0\r\n") 5 (fresh_in 64) ≡ returning (Answered 4 0) (ascii "*0\r\n" ++ (9 ∷ [])) (fresh_in 64)
+none_at_all : resolved no_commands (ascii "*0\r\n") 5 (fresh_in 64) ≡ returning (answered_with 4 0) (ascii "*0\r\n" ++ (9 ∷ [])) (fresh_in 64)
 unfolding case-defs
 none_at_all = refl
 
@@ -103,12 +103,12 @@ unfolding case-defs
 stored-in-76 = refl
 
 -- 75 have not: it is handed out all the same, and one store is refused as 11
-pub refused-in-75 : resolved one_missing (ascii "*2\r\n:1\r\n$1\r\nu\r\n") 11 (fresh_in 75) ≡ returning (Answered 11 1) (ascii "*1\r\n$1\r\nu\r\n") (fresh_in 75)
+pub refused-in-75 : resolved one_missing (ascii "*2\r\n:1\r\n$1\r\nu\r\n") 11 (fresh_in 75) ≡ returning (answered_with 11 1) (ascii "*1\r\n$1\r\nu\r\n") (fresh_in 75)
 unfolding case-defs
 refused-in-75 = refl
 
 -- 8 is known before the first store: where there would be space, nothing is stored
-eight-stores-nothing : resolved one_missing (ascii "*2\r\n:1\r\n$1\r\nu\r\n") 10 (fresh_in 76) ≡ returning (Refused 8) (replicate 10 9) (fresh_in 76)
+eight-stores-nothing : resolved one_missing (ascii "*2\r\n:1\r\n$1\r\nu\r\n") 10 (fresh_in 76) ≡ returning (Err ShortAnswer) (replicate 10 9) (fresh_in 76)
 unfolding case-defs
 eight-stores-nothing = refl
 
@@ -133,33 +133,33 @@ holding_k =
 
 -- stored, with the unwritten end of the buffer unchanged
 stored-whole : resolved one_missing (ascii "*2\r\n:1\r\n$1\r\nu\r\n") 13 (fresh_in 80)
-    ≡ returning (Answered 11 0) (ascii "*1\r\n$1\r\nu\r\n" ++ (9 ∷ 9 ∷ [])) holding_k
+    ≡ returning (answered_with 11 0) (ascii "*1\r\n$1\r\nu\r\n" ++ (9 ∷ 9 ∷ [])) holding_k
 unfolding case-defs
 stored-whole = refl
 
 -- 7 at the second command, which finds its PTTL and no reply: the first one's store remains, the buffer is zeroed
 seven-leaves-store : resolved (plan_head 0 2 ++ (missing "k" ++ missing "m")) (ascii "*3\r\n:1\r\n$1\r\nu\r\n:1\r\n") 5 (fresh_in 80)
-    ≡ returning (Refused 7) (zeros 5) holding_k
+    ≡ returning (Err BadShape) (zeros 5) holding_k
 unfolding case-defs
 seven-leaves-store = refl
 
 -- opt-in: one reply is dropped first, and must be there
 opt-in-drops : resolve_call 1 1 0 one_missing (ascii "*3\r\n+OK\r\n:1\r\n$1\r\nu\r\n") 10 3 (replicate 11 9) (fresh_in 80)
-    ≡ returning (Answered 11 0) (ascii "*1\r\n$1\r\nu\r\n") holding_k
+    ≡ returning (answered_with 11 0) (ascii "*1\r\n$1\r\nu\r\n") holding_k
 unfolding case-defs
 opt-in-drops = refl
 
 opt-in-absent : resolve_call 1 1 0 one_missing (ascii "*2\r\n:1\r\n$1\r\nu\r\n") 10 3 (replicate 11 9) (fresh_in 80)
-    ≡ returning (Refused 7) (zeros 11) (fresh_in 80)
+    ≡ returning (Err BadShape) (zeros 11) (fresh_in 80)
 unfolding case-defs
 opt-in-absent = refl
 
 -- a transaction: the list is that of an array of one array, and the result stands inside `*1`; the bare list is 7
 transaction-inside : resolved (plan_head 1 1 ++ missing "k") (ascii "*1\r\n*2\r\n:1\r\n$1\r\nu\r\n") 15 (fresh_in 80)
-    ≡ returning (Answered 15 0) (ascii "*1\r\n*1\r\n$1\r\nu\r\n") holding_k
+    ≡ returning (answered_with 15 0) (ascii "*1\r\n*1\r\n$1\r\nu\r\n") holding_k
 unfolding case-defs
 transaction-inside = refl
 
-transaction-bare : resolved (plan_head 1 1 ++ missing "k") (ascii "*2\r\n:1\r\n$1\r\nu\r\n") 15 (fresh_in 80) ≡ returning (Refused 7) (zeros 15) (fresh_in 80)
+transaction-bare : resolved (plan_head 1 1 ++ missing "k") (ascii "*2\r\n:1\r\n$1\r\nu\r\n") 15 (fresh_in 80) ≡ returning (Err BadShape) (zeros 15) (fresh_in 80)
 unfolding case-defs
 transaction-bare = refl

@@ -1,5 +1,5 @@
 // Resolving, after `CacheablePipeline::resolve` of caching/cmd.rs: a plan and the replies to what was sent become the result, and what was fetched is
-// stored. Nothing is asked of the caller: what is wrong is refused by a cause's number. specs/Call.antt says what comes out, for all input.
+// stored. Nothing is asked of the caller: what is wrong is refused by its cause. specs/Call.antt says what comes out, for all input.
 #![tactic(auto)]
 
 ghost use Rattle.std.specs.Prelude.{◌≡◌, true, ℕ, ◌≤◌, length};
@@ -16,49 +16,54 @@ ghost use Rattle.caching_cmd.specs.Call.{resolve_call, Comes};
 ghost use Rattle.caching_cmd.specs.Parts.{start_at, Finds, Listed, StoredIf, StoredFor, ShapeRefused, AllWritten};
 ghost use Rattle.caching_cmd.specs.Parts.{ListResolved, CheckedResolved, AdmittedResolved};
 
-use config::{Now, Settings};
+use config::{CacheConfig, Cause, Now, Settings};
 use resolving_passes::Dry;
 use resolving_step::Walk;
-use resp3_element::{Cursor, Elements};
-use room::Room;
-use sharded_lru::Admitted;
+use resp3_element::Cursor;
 
-// What resolving comes to.
-#[derive(Drop)]
-pub enum ResolveAnswer {
-    // So many bytes of result stand in the answer buffer, and so many stores were refused as 11.
-    Answered(usize, u64),
-    // The cause's number.
-    Refused(u64),
+// What resolving gives: so many bytes of result stand in the answer buffer, and so many stores were refused as 11.
+#[derive(Clone, Copy, PartialEq, Eq, Debug)]
+pub struct Answered {
+    pub written: usize,
+    pub refused: u64,
 }
 
 // The list of replies: where it stands in the replies, and the cursor at its first element.
-#[derive(Drop)]
-enum Found {
-    At(usize, usize, Cursor),
-    No,
+#[derive(Clone, Copy)]
+struct ReplyList {
+    from: usize,
+    to: usize,
+    first: Cursor,
 }
 
 // Finds the list (rule S1 of docs/BEHAVIOUR.md): a transaction's stands inside another array.
-fn find_list(replies: &[u8], transaction: bool) -> Found
+fn find_list(replies: &[u8], transaction: bool) -> Option<ReplyList>
     requires { is_value replies.now ≡ true }
     ensures { Finds replies.now transaction result }
 {
-    let Elements::Of(first) = resp3_element::array(replies) else {
-        return Found::No;
+    let Some(first) = resp3_element::array(replies) else {
+        return None;
     };
     if !transaction {
-        return Found::At(0, replies.len(), first);
+        return Some(ReplyList {
+            from: 0,
+            to: replies.len(),
+            first,
+        });
     }
     if first.left != 1 {
-        return Found::No;
+        return None;
     }
     let from = first.at;
     let to = first.end;
-    let Elements::Of(inner) = resp3_element::array(&replies[from..to]) else {
-        return Found::No;
+    let Some(inner) = resp3_element::array(&replies[from..to]) else {
+        return None;
     };
-    Found::At(from, to, inner)
+    Some(ReplyList {
+        from,
+        to,
+        first: inner,
+    })
 }
 
 // Whether a plan is a transaction's.
@@ -116,6 +121,7 @@ pub fn write_result_head(answer: &mut [u8], transaction: bool, n: u64) -> usize
 }
 
 // Stores what was fetched where it is to be kept, and else nothing: how many stores there was no space for.
+// Kept: a flag, since nothing goes with it and both ways answer a count; as a closure the store pass would be handed in by its one caller.
 fn store_if(
     arena: &mut [u8],
     g: Settings,
@@ -156,12 +162,12 @@ fn store_found(
 }
 
 // Cause 7: the whole answer buffer is zeroed.
-fn refuse_shape(answer: &mut [u8]) -> ResolveAnswer
+fn refuse_shape(answer: &mut [u8]) -> Result<Answered, Cause>
     ensures { ShapeRefused answer.old answer.new result }
 {
     let n = answer.len();
     buffer::fill_zero(answer, 0, n);
-    ResolveAnswer::Refused(config::BAD_SHAPE)
+    Err(Cause::BadShape)
 }
 
 // Writes the result, with the number of stores that there was no space for.
@@ -175,7 +181,7 @@ fn write_result<'a>(
     n: u64,
     answer: &mut [u8],
     refused: u64,
-) -> ResolveAnswer
+) -> Result<Answered, Cause>
     requires { Begins plan.now list.now start × (length (result_head transaction n) ≤ length answer.old)
         × Fine plan.now list.now start g.mode clock (length (result_head transaction n)) (length answer.old) }
     ensures { AllWritten g plan.now list.now start clock transaction n refused answer.old answer.new result }
@@ -183,7 +189,10 @@ fn write_result<'a>(
     let mode = g.mode;
     let at = write_result_head(answer, transaction, n);
     let end = resolving_passes::answer_pass(plan, list, start, mode, clock, answer, at);
-    ResolveAnswer::Answered(end, refused)
+    Ok(Answered {
+        written: end,
+        refused,
+    })
 }
 
 // Causes 7 and 8, and the result: nothing is stored before it is known which of them it is.
@@ -195,7 +204,7 @@ fn resolve_list<'a>(
     first: Cursor,
     when: Now,
     answer: &mut [u8],
-) -> ResolveAnswer
+) -> Result<Answered, Cause>
     requires { Arena g arena.old × (is_plan plan.now ≡ true) × Listed list.now first }
     ensures { ListResolved g when.epoch plan.now list.now first when.clock arena.old arena.new
         answer.old answer.new result }
@@ -204,16 +213,12 @@ fn resolve_list<'a>(
     let start = start_at(first);
     let transaction = is_transaction(plan);
     let n = command_count(plan);
-    let whole = Room {
-        left: answer.len(),
-        short: false,
-    };
-    let room = room::spend(whole, head_len(transaction, n));
+    let room = room::spend(Some(answer.len()), head_len(transaction, n));
     let found = resolving_passes::dry_pass(plan, list, start, mode, when.clock, room);
     let refused = store_found(arena, g, plan, list, start, when, found);
     match found {
         Dry::Wrong => refuse_shape(answer),
-        Dry::Short => ResolveAnswer::Refused(config::SHORT_ANSWER),
+        Dry::Short => Err(Cause::ShortAnswer),
         Dry::Fits => {
             write_result(
                 g,
@@ -238,23 +243,23 @@ fn resolve_checked<'a>(
     replies: &'a [u8],
     when: Now,
     answer: &mut [u8],
-) -> ResolveAnswer
+) -> Result<Answered, Cause>
     requires { Arena g arena.old × (is_plan plan.now ≡ true) × (is_value replies.now ≡ true) }
     ensures { CheckedResolved g when.epoch plan.now replies.now when.clock arena.old arena.new
         answer.old answer.new result }
 {
     match find_list(replies, is_transaction(plan)) {
-        Found::No => {
+        None => {
             let len = answer.len();
             buffer::fill_zero(answer, 0, len);
-            ResolveAnswer::Refused(config::BAD_SHAPE)
+            Err(Cause::BadShape)
         }
-        Found::At(from, to, first) => resolve_list(
+        Some(list) => resolve_list(
             arena,
             g,
             plan,
-            &replies[from..to],
-            first,
+            &replies[list.from..list.to],
+            list.first,
             when,
             answer,
         ),
@@ -269,16 +274,16 @@ fn resolve_admitted<'a>(
     replies: &'a [u8],
     when: Now,
     answer: &mut [u8],
-) -> ResolveAnswer
+) -> Result<Answered, Cause>
     requires { Arena g arena.old }
     ensures { AdmittedResolved g when.epoch plan.now replies.now when.clock arena.old arena.new
         answer.old answer.new result }
 {
     if !plan_check::is_plan(plan) {
-        return ResolveAnswer::Refused(config::BAD_PLAN);
+        return Err(Cause::BadPlan);
     }
     if !resp3::is_value(replies) {
-        return ResolveAnswer::Refused(config::BAD_REPLY);
+        return Err(Cause::BadReply);
     }
     resolve_checked(arena, g, plan, replies, when, answer)
 }
@@ -286,20 +291,16 @@ fn resolve_admitted<'a>(
 // Resolves a plan with the replies: causes 1, 9, 10, 6, 7 and 8, in that order.
 pub fn resolve<'a>(
     arena: &mut [u8],
-    size: u64,
-    mode: u64,
-    ttl: u64,
+    cache_config: CacheConfig,
     plan: &'a [u8],
     replies: &'a [u8],
     when: Now,
     answer: &mut [u8],
-) -> ResolveAnswer
+) -> Result<Answered, Cause>
     ensures { (counts : Counts) (next : ℕ) →
-        Comes (resolve_call size mode ttl plan.now replies.now when.clock when.epoch answer.old
+        Comes (resolve_call cache_config.size cache_config.mode cache_config.ttl plan.now replies.now when.clock when.epoch answer.old
         (holding arena.old counts next)) result arena.new answer.new }
 {
-    match sharded_lru::admit(arena, size, mode, ttl) {
-        Admitted::Refused(n) => ResolveAnswer::Refused(n),
-        Admitted::Admits(g) => resolve_admitted(arena, g, plan, replies, when, answer),
-    }
+    let g = sharded_lru::admit(arena, cache_config)?;
+    resolve_admitted(arena, g, plan, replies, when, answer)
 }

@@ -1,25 +1,25 @@
 -- The check of a call record as a definition, and what its answers mean (`check-fine`, `check-offset`). Assumes nothing.
-use Rattle.std.specs.Prelude.{◌≡◌, refl, ◌↔◌, [], ◌∷◌, ◌++◌, ℕ, ◌+◌, ◌-◌, ◌≤◌, ◌<◌, length, take, drop}
+use Rattle.std.specs.Prelude.{◌≡◌, Result, Ok, Err, refl, ◌↔◌, [], ◌∷◌, ◌++◌, ℕ, ◌+◌, ◌-◌, ◌≤◌, ◌<◌, length, take, drop}
 use Rattle.std.proofs.Common.{sym, ap, ◌∙◌, append-nil, append_assoc, arith, length-append, take-append-drop, take_at, take_all, take-take}
 use Rattle.std.proofs.Math.Seq.{take-append-add}
 use Rattle.buffer.specs.Same.{Bytes}
 use Rattle.format.specs.Format.{Read, ok, bad, short}
 use Rattle.format.specs.Begins.{Begins}
+use Rattle.format.specs.Ends.{wrong, same_offset}
 use Rattle.call_record.specs.Record.{Record, enc_record, ValidRecord}
 use Rattle.call_record.specs.Offset.{IsRecord, NoneBegins, EndsEarly, WrongAt, breaks, cut_short}
 use Rattle.call_record.specs.Formats.{record_f}
-use Rattle.call_record.specs.declared.Checked.{Checked}
-use Rattle.call_record.specs.declared.Checked.TheVariants.{Fine, Wrong}
+use Rattle.format.specs.declared.Wrong.{Wrong}
 
 -- what a reading of n bytes answers: nothing may trail
-unfoldable pub check_of : ℕ → Read Record → Checked
-check_of n (ok r []) = Fine
-check_of n (ok r (x ∷ u)) = Wrong (n - length (x ∷ u))
-check_of n (bad o) = Wrong o
-check_of n short = Wrong n
+unfoldable pub check_of : ℕ → Read Record → Result (Unit {0}) Wrong
+check_of n (ok r []) = Ok tt
+check_of n (ok r (x ∷ u)) = wrong (n - length (x ∷ u))
+check_of n (bad o) = wrong o
+check_of n short = wrong n
 
 -- the check's answer
-unfoldable pub check_def : Bytes → Checked
+unfoldable pub check_def : Bytes → Result (Unit {0}) Wrong
 check_def s = check_of (length s) (record_f.read s)
 
 -- ---- fine
@@ -39,18 +39,18 @@ pub record-one : (s : Bytes) (r q : Record) → ValidRecord r → ValidRecord q 
 record-one s r q v w e f = let k : ok r [] ≡ ok q [] = sym (read-record s r v e) ∙ read-record s q w f in cc
 
 -- what is found fine is a record
-fine-sound : (s : Bytes) → check_def s ≡ Fine → IsRecord s
+fine-sound : (s : Bytes) → check_def s ≡ Ok tt → IsRecord s
 unfolding check_def check_of
 fine-sound s e = go (record_f.read s) refl e
   where
-    go : (x : Read Record) → record_f.read s ≡ x → check_of (length s) x ≡ Fine → IsRecord s
+    go : (x : Read Record) → record_f.read s ≡ x → check_of (length s) x ≡ Ok tt → IsRecord s
     go (ok r []) k q = is-record s r k
     go (ok r (x ∷ u)) k q = let z : ◌≡◌ {A = ℕ} 0 1 = cc in absurd (omega arith)
     go (bad o) k q = let z : ◌≡◌ {A = ℕ} 0 1 = cc in absurd (omega arith)
     go short k q = let z : ◌≡◌ {A = ℕ} 0 1 = cc in absurd (omega arith)
 
 -- THE CHECK SAYS FINE exactly for the bytes of a valid record
-pub check-fine : (s : Bytes) → (check_def s ≡ Fine) ↔ IsRecord s
+pub check-fine : (s : Bytes) → (check_def s ≡ Ok tt) ↔ IsRecord s
 unfolding check_def check_of
 check-fine s = (λ e. fine-sound s e, λ w. ap (check_of (length s)) (read-record s w.value w.valid w.bytes))
 
@@ -95,15 +95,15 @@ lacks s b k = go b.rest b.bytes
     go (x ∷ t) e = record { value = b.value; rest = x ∷ t; valid = b.fine; bytes = e; more = omega arith }
 
 -- what an answered offset means
-found : (s : Bytes) (o : ℕ) → check_def s ≡ Wrong o → WrongAt s o
+found : (s : Bytes) (o : ℕ) → check_def s ≡ wrong o → WrongAt s o
 unfolding check_def check_of
 found s o e = go (record_f.read s) refl e
   where
-    go : (x : Read Record) → record_f.read s ≡ x → check_of (length s) x ≡ Wrong o → WrongAt s o
+    go : (x : Read Record) → record_f.read s ≡ x → check_of (length s) x ≡ wrong o → WrongAt s o
     go (ok r []) k q = let z : ◌≡◌ {A = ℕ} 0 1 = cc in absurd (omega arith)
-    go (ok r (x ∷ u)) k q = let h : length s - length (x ∷ u) ≡ o = cc in trails s r x u k o (sym h)
-    go (bad m) k q = let h : m ≡ o = cc in stuck s o (k ∙ ap bad h)
-    go short k q = let h : length s ≡ o = cc in cut_short (sym h) (lacks s (record_f.early s k) k)
+    go (ok r (x ∷ u)) k q = trails s r x u k o (sym (same_offset (length s - length (x ∷ u)) o q))
+    go (bad m) k q = stuck s o (k ∙ ap bad (same_offset m o q))
+    go short k q = cut_short (sym (same_offset (length s) o q)) (lacks s (record_f.early s k) k)
 
 -- ---- there is one such offset
 
@@ -155,12 +155,12 @@ record-right s w o (cut_short h e) =
     omega (arith, ap length z)
 
 -- THE OFFSET: the check answers o exactly where the bytes go wrong at o
-pub check-offset : (s : Bytes) (o : ℕ) → (check_def s ≡ Wrong o) ↔ WrongAt s o
+pub check-offset : (s : Bytes) (o : ℕ) → (check_def s ≡ wrong o) ↔ WrongAt s o
 check-offset s o = (λ e. found s o e, λ w. go w (check_def s) refl)
   where
-    go : WrongAt s o → (x : Checked) → check_def s ≡ x → check_def s ≡ Wrong o
-    go w Fine e = absurd (record-right s (fine-sound s e) o w)
-    go w (Wrong p) e = e ∙ ap Wrong (wrong-once s p o (found s p e) w)
+    go : WrongAt s o → (x : Result (Unit {0}) Wrong) → check_def s ≡ x → check_def s ≡ wrong o
+    go w (Ok x) e = absurd (record-right s (fine-sound s e) o w)
+    go w (Err p) e = e ∙ ap wrong (wrong-once s p.at o (found s p.at e) w)
 
 -- the place where bytes go wrong, and that there is no other
 pub record WrongOnce (s : Bytes) : Type 0 where
@@ -172,6 +172,6 @@ pub record WrongOnce (s : Bytes) : Type 0 where
 pub exactly-one : (s : Bytes) → (IsRecord s → ⊥) → WrongOnce s
 exactly-one s n = go (check_def s) refl
   where
-    go : (x : Checked) → check_def s ≡ x → WrongOnce s
-    go Fine e = absurd (n (fine-sound s e))
-    go (Wrong o) e = let w = found s o e in record { offset = o; wrong = w; only = λ p v. wrong-once s p o v w }
+    go : (x : Result (Unit {0}) Wrong) → check_def s ≡ x → WrongOnce s
+    go (Ok x) e = absurd (n (fine-sound s e))
+    go (Err p) e = let w = found s p.at e in record { offset = p.at; wrong = w; only = λ o v. wrong-once s o p.at v w }

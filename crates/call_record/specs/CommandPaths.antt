@@ -1,28 +1,26 @@
 -- A law for each way through the code of the check: commands, the record and the answer. Assumes nothing.
-use Rattle.std.specs.Prelude.{◌≡◌, Bool, true, false, List, [], ◌∷◌, ℕ, ◌+◌, ◌-◌, ◌^◌, ◌≤◌, ◌<◌, length, get_or}
+use Rattle.std.specs.Prelude.{◌≡◌, Result, Ok, Err, Bool, true, false, List, [], ◌∷◌, ℕ, ◌+◌, ◌-◌, ◌^◌, ◌≤◌, ◌<◌, length}
 use Rattle.std.proofs.Math.Path.{refl}
-use Rattle.std.proofs.Common.{ap, ◌∙◌, arith, length-append, lt-ltb, le-ltb}
+use Rattle.std.proofs.Common.{sym, ap, ◌∙◌, arith, length-append, lt-ltb, le-ltb}
 use Rattle.buffer.specs.Field.{Octets, read16}
 use Rattle.config.specs.Limits.{max_commands, max_arguments}
-use Rattle.format.specs.declared.End.{End}
-use Rattle.format.specs.declared.End.TheVariants.{At, Wrong}
+use Rattle.format.specs.declared.Wrong.{Wrong}
 use Rattle.format.specs.Format.{Read, ok, bad, short, byte_f}
 use Rattle.format.specs.Words.{word_f}
-use Rattle.format.specs.Ends.{end_of, end_at, got_of, some_at, at_some, both_go, both-wrong, map-end, byte-got, byte-bad, byte-out, many_end, many-none}
-use Rattle.format.specs.Ends.{many-go, many-wrong}
-use Rattle.format.specs.Skips.{skip_end, skips-end, skip-number}
+use Rattle.format.specs.Ends.{wrong, end_of, end_at, got_of, some_at, at_some, both_go, both-wrong, map-end, byte-got, byte-bad, byte-out}
+use Rattle.format.specs.Ends.{same_offset}
+use Rattle.format.specs.Skips.{skip_end, skip_is, skip-lack, skips-end, skip-number}
 use Rattle.format.specs.Places.{number_end, number-end, number-inside, word_end, word_end_lem, list-wrong, list-go}
 use Rattle.call_record.specs.Record.{Record, bit}
 use Rattle.call_record.specs.Formats.{argument_f, flags_b, ttl_max, ttl-fits, ttl_f, count_fits, arguments_f, CursorArgs, after_flags, CommandParts}
 use Rattle.call_record.specs.Formats.{command_f, start, head_b, commands_f, FlagsCommands, RecordParts, record_f}
 use Rattle.call_record.specs.Check.{check_of, check_def}
-use Rattle.call_record.specs.declared.Checked.TheVariants.{Fine, Wrong as Bad}
-use Rattle.call_record.specs.Paths.{arguments_end}
+use Rattle.call_record.specs.Paths.{byte_at, byte-is, byte-past, many, many-of, argument_end}
 
 -- ---- a command
 
 -- where a TTL ends
-unfoldable pub ttl_end : Bool → List ℕ → ℕ → End
+unfoldable pub ttl_end : Bool → List ℕ → ℕ → Result ℕ Wrong
 ttl_end b s at = end_at (ttl_f b) s at
 
 -- any eight bytes where there is one
@@ -36,42 +34,50 @@ unfolding ttl_end
 ttl-zeros s at = number-end 8 0 (ttl-fits false) s at
 
 -- it lies inside
-pub ttl-inside : (b : Bool) (s : List ℕ) (at e : ℕ) → at ≤ length s → ttl_end b s at ≡ At e → e ≤ length s
+pub ttl-inside : (b : Bool) (s : List ℕ) (at e : ℕ) → at ≤ length s → ttl_end b s at ≡ Ok e → e ≤ length s
 unfolding ttl_end
 ttl-inside b s at e h k = (some_at (ttl_f b) s at h e k).got.inside
 
 -- a count that was read lies inside
-pub count-inside : (m : ℕ) → m < 256 ^ 2 → (s : List ℕ) (at e : ℕ) → at ≤ length s → number_end 2 m s at ≡ At e → (at + 2 ≤ length s) × (e ≤ length s)
+pub count-inside : (m : ℕ) → m < 256 ^ 2 → (s : List ℕ) (at e : ℕ) → at ≤ length s → number_end 2 m s at ≡ Ok e → (at + 2 ≤ length s) × (e ≤ length s)
 count-inside m q s at e h k = let w = number-inside 2 m s at q e h k in let z = w.0 in let i = w.1 in (omega arith, i)
 
 -- the cursor and the arguments
-unfoldable pub rest_end : List ℕ → ℕ → End
+unfoldable pub rest_end : List ℕ → ℕ → Result ℕ Wrong
 rest_end s at = end_at CursorArgs s at
 
 module _ (s : List ℕ) (b : Octets s) (at : ℕ) (h : at ≤ length s) where
-  pub rest-short : length s < at + 8 → rest_end s at ≡ Wrong (length s)
+  pub rest-short : (w : Wrong) → skip_end (length s) at 8 ≡ Err w → rest_end s at ≡ Err w
   unfolding rest_end
-  rest-short k =
-      both-wrong (ttl_f true) s at (λ c. arguments_f) (length s) ((skip-number 8 (ttl_max true) (ttl-fits true) (omega arith)).lack s b at h k)
+  rest-short w q =
+      let z = skip-lack (length s) at 8 w q in
+      both-wrong (ttl_f true) s at (λ c. arguments_f) (length s) ((skip-number 8 (ttl_max true) (ttl-fits true) (omega arith)).lack s b at h z.0) ∙ sym (ap wrong z.1)
 
-  -- on behind the cursor
-  rest-on : at + 8 ≤ length s → rest_end s at ≡ end_at arguments_f s (at + 8)
-  unfolding rest_end
-  rest-on k =
-      let w = (skip-number 8 (ttl_max true) (ttl-fits true) (omega arith)).whole s b at (at + 8) refl k in
-      both_go (ttl_f true) s at (λ c. arguments_f) w.value (at + 8) w.got
+  module _ (i : ℕ) (q : skip_end (length s) at 8 ≡ Ok i) where
+    -- on behind the cursor
+    rest-on : rest_end s at ≡ end_at arguments_f s i
+    unfolding rest_end
+    rest-on =
+        let z = skip_is (length s) at 8 i q in
+        let w = (skip-number 8 (ttl_max true) (ttl-fits true) (omega arith)).whole s b at i z.0 z.1 in
+        both_go (ttl_f true) s at (λ c. arguments_f) w.value i w.got
 
-  -- the count is wrong
-  pub rest-wrong : (o : ℕ) → at + 8 ≤ length s → number_end 2 max_arguments s (at + 8) ≡ Wrong o → rest_end s at ≡ Wrong o
-  rest-wrong o k q = rest-on k ∙ list-wrong 2 max_arguments count_fits s (at + 8) argument_f o q
+    -- the count is wrong
+    pub rest-wrong : (o : ℕ) → number_end 2 max_arguments s i ≡ wrong o → rest_end s at ≡ wrong o
+    rest-wrong o t = rest-on ∙ list-wrong 2 max_arguments count_fits s i argument_f o t
 
-  -- on to the arguments
-  pub rest-go : (e n : ℕ) → at + 8 ≤ length s → number_end 2 max_arguments s (at + 8) ≡ At e → n ≡ read16 s (at + 8) → rest_end s at ≡ arguments_end s n e
-  unfolding arguments_end
-  rest-go e n k q z = rw z (rest-on k ∙ list-go 2 max_arguments count_fits s (at + 8) argument_f e k q)
+    -- on to the arguments
+    pub rest-go : (e n : ℕ) → number_end 2 max_arguments s i ≡ Ok e → n ≡ read16 s i → rest_end s at ≡ many (argument_end s) n e
+    unfolding argument_end
+    rest-go e n t z =
+        let h = (skip_is (length s) at 8 i q).1 in
+        rw z
+        (rest-on
+        ∙ list-go 2 max_arguments count_fits s i argument_f e h t
+        ∙ sym (many-of argument_f s (read16 s i) e (count-inside max_arguments count_fits s i e h t).1))
 
 -- where a command ends
-unfoldable pub command_end : List ℕ → ℕ → End
+unfoldable pub command_end : List ℕ → ℕ → Result ℕ Wrong
 command_end s at = end_at command_f s at
 
 -- as its fields
@@ -80,88 +86,88 @@ unfolding command_end
 command-map s at = map-end CommandParts s at _ _ _ _ _ _
 
 module _ (s : List ℕ) (at : ℕ) where
-  pub command-out : length s ≤ at → command_end s at ≡ Wrong (length s)
-  command-out h = command-map s at ∙ both-wrong (byte_f flags_b 0 refl) s at after_flags (length s) (byte-out flags_b 0 refl s at h)
+  pub command-out : (w : Wrong) → byte_at s at ≡ Err w → command_end s at ≡ Err w
+  command-out w q =
+      let z = byte-past s at w q in
+      command-map s at ∙ both-wrong (byte_f flags_b 0 refl) s at after_flags (length s) (byte-out flags_b 0 refl s at z.0) ∙ sym (ap wrong z.1)
 
-  -- wrong flags
-  pub command-flags : at < length s → flags_b (get_or s at 0) ≡ false → command_end s at ≡ Wrong at
-  command-flags h k = command-map s at ∙ both-wrong (byte_f flags_b 0 refl) s at after_flags at (byte-bad flags_b 0 refl s at h k)
+  module _ (f : ℕ) (q : byte_at s at ≡ Ok f) where
+    -- wrong flags
+    pub command-flags : flags_b f ≡ false → command_end s at ≡ wrong at
+    command-flags k =
+        let z = byte-is s at f q in
+        command-map s at ∙ both-wrong (byte_f flags_b 0 refl) s at after_flags at (byte-bad flags_b 0 refl s at z.0 (rw z.1 k))
 
-  -- on behind the flags
-  flags-go : at < length s → flags_b (get_or s at 0) ≡ true → command_end s at ≡ end_at (after_flags (get_or s at 0)) s (at + 1)
-  flags-go h k = command-map s at ∙ both_go (byte_f flags_b 0 refl) s at after_flags (get_or s at 0) (at + 1) (byte-got flags_b 0 refl s at h k)
+    -- on behind the flags
+    flags-go : flags_b f ≡ true → command_end s at ≡ end_at (after_flags f) s (at + 1)
+    flags-go k =
+        let z = byte-is s at f q in
+        command-map s at ∙ both_go (byte_f flags_b 0 refl) s at after_flags f (at + 1) (rw z.1 at (byte-got flags_b 0 refl s at z.0 (rw z.1 k)))
 
-  -- a wrong TTL
-  pub command-ttl : (o : ℕ) → at < length s → flags_b (get_or s at 0) ≡ true → ttl_end (bit 3 (get_or s at 0)) s (at + 1) ≡ Wrong o → command_end s at ≡ Wrong o
-  unfolding ttl_end
-  command-ttl o h k q = flags-go h k ∙ both-wrong (ttl_f (bit 3 (get_or s at 0))) s (at + 1) (λ t. CursorArgs) o q
+    -- a wrong TTL
+    pub command-ttl : (o : ℕ) → flags_b f ≡ true → ttl_end (bit 3 f) s (at + 1) ≡ wrong o → command_end s at ≡ wrong o
+    unfolding ttl_end
+    command-ttl o k t = flags-go k ∙ both-wrong (ttl_f (bit 3 f)) s (at + 1) (λ t. CursorArgs) o t
 
-  -- on behind the TTL
-  pub command-go : (e : ℕ) → at < length s → flags_b (get_or s at 0) ≡ true → ttl_end (bit 3 (get_or s at 0)) s (at + 1) ≡ At e → command_end s at ≡ rest_end s e
-  unfolding ttl_end rest_end
-  command-go e h k q =
-      let w = some_at (ttl_f (bit 3 (get_or s at 0))) s (at + 1) (omega arith) e q in
-      flags-go h k ∙ both_go (ttl_f (bit 3 (get_or s at 0))) s (at + 1) (λ t. CursorArgs) w.value e w.got
+    -- on behind the TTL
+    pub command-go : (e : ℕ) → flags_b f ≡ true → ttl_end (bit 3 f) s (at + 1) ≡ Ok e → command_end s at ≡ rest_end s e
+    unfolding ttl_end rest_end
+    command-go e k t =
+        let z = byte-is s at f q in
+        let l = z.0 in
+        let w = some_at (ttl_f (bit 3 f)) s (at + 1) (omega arith) e t in
+        flags-go k ∙ both_go (ttl_f (bit 3 f)) s (at + 1) (λ t. CursorArgs) w.value e w.got
 
 -- it lies inside
-pub command-inside : (s : List ℕ) (at e : ℕ) → at ≤ length s → command_end s at ≡ At e → e ≤ length s
+pub command-inside : (s : List ℕ) (at e : ℕ) → at ≤ length s → command_end s at ≡ Ok e → e ≤ length s
 unfolding command_end
 command-inside s at e h k = (some_at command_f s at h e k).got.inside
-
--- ---- commands
-
--- where n commands end
-unfoldable pub commands_end : List ℕ → ℕ → ℕ → End
-commands_end s n at = many_end command_f s n at
-
--- none is left
-pub commands-none : (s : List ℕ) (n at : ℕ) → n ≡ 0 → at ≤ length s → commands_end s n at ≡ At at
-unfolding commands_end
-commands-none s n at z h = rw z (many-none command_f s at h)
-
--- one, and the others behind it
-pub commands-go : (s : List ℕ) (n m at e : ℕ) → m ≡ n + 1 → at ≤ length s → command_end s at ≡ At e → commands_end s m at ≡ commands_end s n e
-unfolding commands_end command_end
-commands-go s n m at e q h k = many-go command_f s n m at e q h k
-
--- the first is wrong
-pub commands-wrong : (s : List ℕ) (n m at o : ℕ) → m ≡ n + 1 → command_end s at ≡ Wrong o → commands_end s m at ≡ Wrong o
-unfolding commands_end command_end
-commands-wrong s n m at o q k = many-wrong command_f s n m at o q k
 
 -- ---- the record
 
 -- flags and commands
-unfoldable pub tail_end : List ℕ → ℕ → End
+unfoldable pub tail_end : List ℕ → ℕ → Result ℕ Wrong
 tail_end s at = end_at FlagsCommands s at
 
 module _ (s : List ℕ) (at : ℕ) where
-  pub tail-out : length s ≤ at → tail_end s at ≡ Wrong (length s)
+  pub tail-out : (w : Wrong) → byte_at s at ≡ Err w → tail_end s at ≡ Err w
   unfolding tail_end
-  tail-out h = both-wrong (byte_f head_b 0 refl) s at (λ f. commands_f) (length s) (byte-out head_b 0 refl s at h)
+  tail-out w q =
+      let z = byte-past s at w q in
+      both-wrong (byte_f head_b 0 refl) s at (λ f. commands_f) (length s) (byte-out head_b 0 refl s at z.0) ∙ sym (ap wrong z.1)
 
-  -- wrong flags
-  pub tail-flags : at < length s → 2 ≤ get_or s at 0 → tail_end s at ≡ Wrong at
-  unfolding tail_end
-  tail-flags h k = both-wrong (byte_f head_b 0 refl) s at (λ f. commands_f) at (byte-bad head_b 0 refl s at h (le-ltb (get_or s at 0) 2 k))
+  module _ (f : ℕ) (q : byte_at s at ≡ Ok f) where
+    -- wrong flags
+    pub tail-flags : 2 ≤ f → tail_end s at ≡ wrong at
+    unfolding tail_end
+    tail-flags k =
+        let z = byte-is s at f q in
+        both-wrong (byte_f head_b 0 refl) s at (λ f. commands_f) at (byte-bad head_b 0 refl s at z.0 (rw z.1 (le-ltb f 2 k)))
 
-  -- on behind the flags
-  tail-on : at < length s → get_or s at 0 < 2 → tail_end s at ≡ end_at commands_f s (at + 1)
-  unfolding tail_end
-  tail-on h k = both_go (byte_f head_b 0 refl) s at (λ f. commands_f) (get_or s at 0) (at + 1) (byte-got head_b 0 refl s at h (lt-ltb (get_or s at 0) 2 k))
+    -- on behind the flags
+    tail-on : f < 2 → tail_end s at ≡ end_at commands_f s (at + 1)
+    unfolding tail_end
+    tail-on k =
+        let z = byte-is s at f q in
+        both_go (byte_f head_b 0 refl) s at (λ f. commands_f) f (at + 1) (rw z.1 at (byte-got head_b 0 refl s at z.0 (rw z.1 (lt-ltb f 2 k))))
 
-  -- the count is wrong
-  pub tail-count : (o : ℕ) → at < length s → get_or s at 0 < 2 → number_end 2 max_commands s (at + 1) ≡ Wrong o → tail_end s at ≡ Wrong o
-  tail-count o h k q = tail-on h k ∙ list-wrong 2 max_commands count_fits s (at + 1) command_f o q
+    -- the count is wrong
+    pub tail-count : (o : ℕ) → f < 2 → number_end 2 max_commands s (at + 1) ≡ wrong o → tail_end s at ≡ wrong o
+    tail-count o k e = tail-on k ∙ list-wrong 2 max_commands count_fits s (at + 1) command_f o e
 
-  -- on to the commands
-  pub tail-go : (e n : ℕ) → at < length s → get_or s at 0 < 2 → number_end 2 max_commands s (at + 1) ≡ At e → n ≡ read16 s (at + 1)
-      → tail_end s at ≡ commands_end s n e
-  unfolding commands_end
-  tail-go e n h k q z = rw z (tail-on h k ∙ list-go 2 max_commands count_fits s (at + 1) command_f e (omega arith) q)
+    -- on to the commands
+    pub tail-go : (e n : ℕ) → f < 2 → number_end 2 max_commands s (at + 1) ≡ Ok e → n ≡ read16 s (at + 1) → tail_end s at ≡ many (command_end s) n e
+    unfolding command_end
+    tail-go e n k t z =
+        let h = (byte-is s at f q).0 in
+        let i : at + 1 ≤ length s = omega arith in
+        rw z
+        (tail-on k
+        ∙ list-go 2 max_commands count_fits s (at + 1) command_f e i t
+        ∙ sym (many-of command_f s (read16 s (at + 1)) e (count-inside max_commands count_fits s (at + 1) e i t).1))
 
 -- all of it
-unfoldable pub record_end : List ℕ → End
+unfoldable pub record_end : List ℕ → Result ℕ Wrong
 record_end s = end_at record_f s 0
 
 -- as its fields
@@ -170,11 +176,11 @@ unfolding record_end
 record-map s = map-end RecordParts s 0 _ _ _ _ _ _
 
 -- the mark or the version is wrong
-pub record-start : (s : List ℕ) (o : ℕ) → word_end start s 0 ≡ Wrong o → record_end s ≡ Wrong o
+pub record-start : (s : List ℕ) (o : ℕ) → word_end start s 0 ≡ wrong o → record_end s ≡ wrong o
 record-start s o q = record-map s ∙ both-wrong (word_f start) s 0 (λ m. FlagsCommands) o (word_end_lem s 0 start ∙ q)
 
 -- on behind them
-pub record-go : (s : List ℕ) (e : ℕ) → word_end start s 0 ≡ At e → (e ≤ length s) × (record_end s ≡ tail_end s e)
+pub record-go : (s : List ℕ) (e : ℕ) → word_end start s 0 ≡ Ok e → (e ≤ length s) × (record_end s ≡ tail_end s e)
 unfolding tail_end
 record-go s e q =
     let w = some_at (word_f start) s 0 (omega arith) e (word_end_lem s 0 start ∙ q) in
@@ -183,17 +189,17 @@ record-go s e q =
 -- ---- the answer
 
 -- a wrong byte, or it ends early
-pub check-wrong : (s : List ℕ) (o : ℕ) → record_end s ≡ Wrong o → check_def s ≡ Bad o
+pub check-wrong : (s : List ℕ) (o : ℕ) → record_end s ≡ wrong o → check_def s ≡ wrong o
 unfolding record_end end_at end_of check_def check_of
 check-wrong s o q = go (record_f.read s) q
   where
-    go : (r : Read Record) → end_of s 0 r ≡ Wrong o → check_of (length s) r ≡ Bad o
+    go : (r : Read Record) → end_of s 0 r ≡ wrong o → check_of (length s) r ≡ wrong o
     go (ok r u) q = let z : ◌≡◌ {A = ℕ} 0 1 = cc in absurd (omega arith)
-    go (bad m) q = let z : 0 + m ≡ o = cc in ap Bad (omega arith)
-    go short q = let z : length s ≡ o = cc in ap Bad z
+    go (bad m) q = let z = same_offset (0 + m) o q in ap wrong (omega arith)
+    go short q = ap wrong (same_offset (length s) o q)
 
 -- what a whole record leaves
-left_over : (s : List ℕ) (e : ℕ) → record_end s ≡ At e → (u : List ℕ) (r : Record) → record_f.read s ≡ ok r u → e + length u ≡ length s
+left_over : (s : List ℕ) (e : ℕ) → record_end s ≡ Ok e → (u : List ℕ) (r : Record) → record_f.read s ≡ ok r u → e + length u ≡ length s
 unfolding record_end
 left_over s e q u r k =
     let g = got_of record_f s 0 (omega arith) r u k in
@@ -204,23 +210,23 @@ left_over s e q u r k =
     omega (arith, ap length n.bytes ∙ length-append (record_f.enc r) u)
 
 -- a record to its end
-pub check-whole : (s : List ℕ) (e : ℕ) → record_end s ≡ At e → length s ≤ e → check_def s ≡ Fine
+pub check-whole : (s : List ℕ) (e : ℕ) → record_end s ≡ Ok e → length s ≤ e → check_def s ≡ Ok tt
 unfolding check_def check_of record_end end_at end_of
 check-whole s e q h = go (record_f.read s) refl q
   where
-    go : (r : Read Record) → record_f.read s ≡ r → end_of s 0 r ≡ At e → check_of (length s) r ≡ Fine
+    go : (r : Read Record) → record_f.read s ≡ r → end_of s 0 r ≡ Ok e → check_of (length s) r ≡ Ok tt
     go (ok r []) k q = refl
     go (ok r (x ∷ u)) k q = absurd (omega (arith, left_over s e (ap (end_of s 0) k ∙ q) (x ∷ u) r k))
     go (bad m) k q = let z : ◌≡◌ {A = ℕ} 0 1 = cc in absurd (omega arith)
     go short k q = let z : ◌≡◌ {A = ℕ} 0 1 = cc in absurd (omega arith)
 
 -- something trails
-pub check-trails : (s : List ℕ) (e : ℕ) → record_end s ≡ At e → e < length s → check_def s ≡ Bad e
+pub check-trails : (s : List ℕ) (e : ℕ) → record_end s ≡ Ok e → e < length s → check_def s ≡ wrong e
 unfolding check_def check_of record_end end_at end_of
 check-trails s e q h = go (record_f.read s) refl q
   where
-    go : (r : Read Record) → record_f.read s ≡ r → end_of s 0 r ≡ At e → check_of (length s) r ≡ Bad e
+    go : (r : Read Record) → record_f.read s ≡ r → end_of s 0 r ≡ Ok e → check_of (length s) r ≡ wrong e
     go (ok r []) k q = absurd (omega (arith, left_over s e (ap (end_of s 0) k ∙ q) [] r k))
-    go (ok r (x ∷ u)) k q = let z : length s - length (x ∷ u) ≡ e = cc in ap Bad z
+    go (ok r (x ∷ u)) k q = let z : length s - length (x ∷ u) ≡ e = cc in ap wrong z
     go (bad m) k q = let z : ◌≡◌ {A = ℕ} 0 1 = cc in absurd (omega arith)
     go short k q = let z : ◌≡◌ {A = ℕ} 0 1 = cc in absurd (omega arith)

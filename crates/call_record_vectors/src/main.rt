@@ -3,12 +3,11 @@
 // Input and expected output are made by vectors.py, from the scope document alone.
 #![tactic(auto)]
 
-ghost use Rattle.std.specs.Prelude.{◌≤◌};
+ghost use Rattle.std.specs.Prelude.{◌≤◌, ◌<◌, IfSome};
 ghost use Rattle.cursor.specs.At.{RangeIn, ArgsHere, CommandsHere};
 
-use call_record::Checked;
 use command_key::CommandKey;
-use cursor::{ArgAt, Args, Commands, Head, NextArg, NextCommand, Range};
+use cursor::{Arg, Args, Commands, Head, Range};
 use std::io::{self, BufWriter, Read, Write};
 
 // The most bytes that are read.
@@ -16,18 +15,6 @@ const MAX_INPUT: u64 = 65_536;
 
 // The most bytes that a line is to spell, and that are shown of a command key or a packed command.
 const MAX_SHOWN: usize = 4096;
-
-fn put<W: Write>(to: &mut W, s: &[u8]) -> io::Result<()> {
-    to.write_all(s)
-}
-
-fn put_number<W: Write>(to: &mut W, n: u64) -> io::Result<()> {
-    write!(to, "{n}")
-}
-
-fn wide(x: u8) -> u64 {
-    x as u64
-}
 
 // Whether a byte is written as it stands.
 fn plain(b: u8) -> bool {
@@ -40,20 +27,15 @@ fn plain(b: u8) -> bool {
 
 // Bytes in brackets, those that are no plain characters as \ and two hexadecimal digits.
 fn put_text<W: Write>(to: &mut W, s: &[u8]) -> io::Result<()> {
-    put(to, b"[")?;
-    let mut i = 0;
-    while i < s.len() {
-        let b = s[i];
-        let e = i + 1;
-        if plain(b) {
-            put(to, &s[i..e])?;
+    to.write_all(b"[")?;
+    for b in s {
+        if plain(*b) {
+            to.write_all(&[*b])?;
         } else {
-            put(to, b"\\")?;
-            write!(to, "{b:02x}")?;
+            write!(to, "\\{b:02x}")?;
         }
-        i = e;
     }
-    put(to, b"]")
+    to.write_all(b"]")
 }
 
 fn put_range<W: Write>(to: &mut W, s: &[u8], g: Range) -> io::Result<()>
@@ -66,23 +48,14 @@ fn put_range<W: Write>(to: &mut W, s: &[u8], g: Range) -> io::Result<()>
 fn put_arguments<W: Write>(to: &mut W, s: &[u8], first: Args) -> io::Result<()>
     requires { ArgsHere s.now first }
 {
-    put(to, b", arguments")?;
-    let mut k = first;
-    while k.left > 0 {
-        let n = cursor::next_arg(s, k);
-        match n {
-            NextArg::Done => {
-                return Ok(());
-            }
-            NextArg::Simple(g, rest) => {
-                put(to, b" ")?;
+    to.write_all(b", arguments")?;
+    for arg in cursor::args_iter(s, first) {
+        match arg {
+            Arg::Simple(g) => {
+                to.write_all(b" ")?;
                 put_range(to, s, g)?;
-                k = rest;
             }
-            NextArg::Cursor(rest) => {
-                put(to, b" cursor")?;
-                k = rest;
-            }
+            Arg::Cursor => to.write_all(b" cursor")?,
         }
     }
     Ok(())
@@ -92,14 +65,11 @@ fn put_arguments<W: Write>(to: &mut W, s: &[u8], first: Args) -> io::Result<()>
 fn put_index<W: Write>(to: &mut W, s: &[u8], args: Args, idx: usize) -> io::Result<()>
     requires { ArgsHere s.now args }
 {
-    put(to, b" ")?;
-    put_number(to, idx as u64)?;
-    put(to, b":")?;
-    let a = cursor::arg_idx(s, args, idx);
-    match a {
-        ArgAt::NotThere => put(to, b" none"),
-        ArgAt::Found(g) => {
-            put(to, b" ")?;
+    write!(to, " {idx}:")?;
+    match cursor::arg_idx(s, args, idx) {
+        None => to.write_all(b" none"),
+        Some(g) => {
+            to.write_all(b" ")?;
             put_range(to, s, g)
         }
     }
@@ -117,7 +87,7 @@ fn put_front<W: Write>(to: &mut W, out: &[u8], n: usize) -> io::Result<()> {
 fn put_key<W: Write>(to: &mut W, s: &[u8], args: Args) -> io::Result<()>
     requires { ArgsHere s.now args }
 {
-    put(to, b"\n    key ")?;
+    to.write_all(b"\n    key ")?;
     let mut out = [0; MAX_SHOWN];
     let key = CommandKey::Joined(args);
     let n = command_key::key_len(s, key);
@@ -140,9 +110,7 @@ fn put_packed<W: Write>(to: &mut W, s: &[u8], args: Args, cursor: u64) -> io::Re
     }
     let mut out = [0; MAX_SHOWN];
     let n = cmd::args_len(s, args, cursor);
-    put(to, b"\n    packed in ")?;
-    put_number(to, n as u64)?;
-    put(to, b": ")?;
+    write!(to, "\n    packed in {n}: ")?;
     if n <= out.len() {
         let e = cmd::write_command(s, args, cursor, &mut out, 0);
         put_front(to, &out, e)?;
@@ -152,12 +120,13 @@ fn put_packed<W: Write>(to: &mut W, s: &[u8], args: Args, cursor: u64) -> io::Re
 
 // A command's fields.
 fn put_head<W: Write>(to: &mut W, h: Head) -> io::Result<()> {
-    put(to, b"  flags ")?;
-    put_number(to, wide(h.flags))?;
-    put(to, b", ttl ")?;
-    put_number(to, h.ttl)?;
-    put(to, b", cursor ")?;
-    put_number(to, h.cursor)
+    let Head {
+        flags,
+        ttl,
+        cursor,
+        ..
+    } = h;
+    write!(to, "  flags {flags}, ttl {ttl}, cursor {cursor}")
 }
 
 fn put_command<W: Write>(to: &mut W, s: &[u8], h: Head) -> io::Result<()>
@@ -166,88 +135,72 @@ fn put_command<W: Write>(to: &mut W, s: &[u8], h: Head) -> io::Result<()>
     let args = h.args;
     put_head(to, h)?;
     put_arguments(to, s, args)?;
-    put(to, b"\n    by number")?;
+    to.write_all(b"\n    by number")?;
     put_index(to, s, args, 0)?;
     put_index(to, s, args, 1)?;
     put_key(to, s, args)?;
     put_packed(to, s, args, h.cursor)?;
-    put(to, b"\n")
+    to.write_all(b"\n")
 }
 
 fn put_commands<W: Write>(to: &mut W, s: &[u8], first: Commands) -> io::Result<()>
     requires { CommandsHere s.now first }
 {
     let mut k = first;
-    while k.left > 0 {
-        let n = cursor::next_command(s, k);
-        match n {
-            NextCommand::Done => {
-                return Ok(());
-            }
-            NextCommand::Command(h, rest) => {
-                put_command(to, s, h)?;
-                k = rest;
-            }
-        }
+    while let Some((h, rest)) = cursor::next_command(s, k) {
+        put_command(to, s, h)?;
+        k = rest;
     }
     Ok(())
 }
 
 // What the bytes are found to be.
 fn show<W: Write>(to: &mut W, s: &[u8]) -> io::Result<()> {
-    let c = call_record::check(s);
-    match c {
-        Checked::Wrong(o) => {
-            put(to, b"wrong at ")?;
-            put_number(to, o as u64)?;
-            put(to, b"\n")
+    match call_record::check(s) {
+        Err(wrong) => {
+            let at = wrong.at;
+            writeln!(to, "wrong at {at}")
         }
-        Checked::Fine => {
+        Ok(()) => {
             let k = cursor::commands_of(s);
-            put(to, b"fine")?;
+            to.write_all(b"fine")?;
             if cursor::is_transaction(s) {
-                put(to, b", a transaction")?;
+                to.write_all(b", a transaction")?;
             }
-            put(to, b", commands ")?;
-            put_number(to, k.left as u64)?;
-            put(to, b"\n")?;
+            let n = k.left;
+            writeln!(to, ", commands {n}")?;
             put_commands(to, s, k)
         }
     }
 }
 
-// A hexadecimal digit's value; 16 for any other byte.
-fn digit(b: u8) -> u8
-    ensures { result ≤ 16 }
+// A hexadecimal digit's value.
+fn digit(b: u8) -> Option<u8>
+    ensures { IfSome result (λ n. n < 16) }
 {
     match b {
-        48..=57 => b - 48,
-        97..=102 => b - 87,
-        _ => 16,
+        48..=57 => Some(b - 48),
+        97..=102 => Some(b - 87),
+        _ => None,
     }
 }
 
-// The bytes that the digits from `at` on spell, up to the first byte that is no digit: how many they are.
-fn unhex(line: &[u8], at: usize, out: &mut [u8]) -> usize {
-    let mut i = at;
+// The byte that two digits spell.
+fn byte(digits: &[u8]) -> Option<u8> {
+    match digits {
+        [high, low] => Some(digit(*high)? * 16 + digit(*low)?),
+        _ => None,
+    }
+}
+
+// The bytes that a line's digits spell, up to the first byte that is no digit: how many they are.
+fn unhex(line: &[u8], out: &mut [u8]) -> usize {
     let mut n = 0;
-    while n < out.len() {
-        if i >= line.len() {
-            return n;
+    for (digits, place) in line.chunks(2).zip(out) {
+        match byte(digits) {
+            Some(b) => *place = b,
+            None => return n,
         }
-        if line.len() - i < 2 {
-            return n;
-        }
-        let high = digit(line[i]);
-        let low = digit(line[i + 1]);
-        if high == 16 {
-            return n;
-        }
-        if low == 16 {
-            return n;
-        }
-        out[n] = high * 16 + low;
-        i += 2;
         n += 1;
     }
     n
@@ -261,18 +214,19 @@ fn show_front<W: Write>(to: &mut W, out: &[u8], n: usize) -> io::Result<()> {
     Ok(())
 }
 
-// The bytes that the line at `at` spells.
-fn show_line<W: Write>(to: &mut W, s: &[u8], at: usize) -> io::Result<()> {
+// The bytes that a line spells.
+fn show_line<W: Write>(to: &mut W, line: &[u8]) -> io::Result<()> {
     let mut out = [0; MAX_SHOWN];
-    let n = unhex(s, at, &mut out);
+    let n = unhex(line, &mut out);
     show_front(to, &out, n)
 }
 
 fn show_lines<W: Write>(to: &mut W, s: &[u8]) -> io::Result<()> {
     let mut at = 0;
+    // Kept: no plainer as a `for`: behind the last line feed `split` has one piece more, which is no line.
     while at < s.len() {
         let end = vectors_lines::line_end(s, at);
-        show_line(to, s, at)?;
+        show_line(to, &s[at..end])?;
         if end == s.len() {
             break;
         }

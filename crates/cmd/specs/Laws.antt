@@ -5,14 +5,15 @@ use Rattle.std.proofs.lemmas.Bool.{eqb-false}
 use Rattle.buffer.specs.Cases.{by_test}
 use Rattle.buffer.specs.Same.{Bytes}
 use Rattle.buffer.specs.Part.{put}
-use Rattle.buffer.specs.PartLaws.{length-put}
+use Rattle.buffer.specs.PartLaws.{length_part, length-put}
 use Rattle.buffer.specs.Step.{set-put}
 use Rattle.config.specs.Limits.{max_bytes}
-use Rattle.call_record.specs.Record.{Argument}
-use Rattle.cursor.specs.At.{size_at, next_at, arg_at, args_at, ArgIn}
-use Rattle.cursor.specs.Steps.{args_none, args_more}
+use Rattle.call_record.specs.Record.{Argument, simple, cursor}
+use Rattle.cursor.specs.declared.Arg.{Arg}
+use Rattle.cursor.specs.declared.Args.{Args}
+use Rattle.cursor.specs.At.{own, argument_of, size_at, next_at, arg_at, args_at, args_of, ArgIn}
+use Rattle.cursor.specs.Steps.{args_none, args_more, Stepped}
 use Rattle.buffer.specs.Copied.{Copied, copied-start, copied_next, copied-done, copied-ends, copied-room}
-use Rattle.command_key.specs.Joined.{cut_at, cut-is, cut-length}
 use Rattle.decimal.specs.Digits.{digits}
 use Rattle.decimal.specs.DigitLaws.{count-max}
 use Rattle.cmd.specs.Pack.{sent, texts, head, blob, blob_bytes, packed, pttl_texts, caching_texts, multi_texts, exec_texts}
@@ -74,17 +75,22 @@ blob-room d t to n z h = let a = blob-length t in let b = head-length 36 (length
 
 -- ---- an argument
 
--- a simple argument's bytes as they are cut out
-pub sent-simple : (s : Bytes) (cur at k : ℕ) → get_or s at 0 ≡ 0 → k ≡ size_at s at → sent cur (arg_at s at) ≡ cut_at s at k
-sent-simple s cur at k h e = rw (eq-eqb (get_or s at 0) 0 h) (sym (cut-is s at k e))
-
 -- a cursor's digits
 pub sent-cursor : (s : Bytes) (cur at : ℕ) → (get_or s at 0 ≡ 0 → ⊥) → sent cur (arg_at s at) ≡ digits cur
 sent-cursor s cur at h = rw (ne_eqb (get_or s at 0) 0 h)
 
 -- how long it is as it is sent
 pub sent-size : (s : Bytes) (cur at : ℕ) → ArgIn s at → get_or s at 0 ≡ 0 → length (sent cur (arg_at s at)) ≡ size_at s at
-sent-size s cur at w h = ap length (sent-simple s cur at (size_at s at) h refl) ∙ cut-length s at (size_at s at) refl w
+sent-size s cur at w h = let i = w.inside in rw (eq-eqb (get_or s at 0) 0 h) (length_part s (at + 5) (size_at s at) (omega arith))
+
+-- no more than its own bytes, or a cursor's digits, of which there are at most 20
+pub sent-bound : (cur : ℕ) → cur < 2 ^ 64 → (a : Argument) → length (sent cur a) ≤ length (own a) + 20
+sent-bound cur h (simple b) = omega arith
+sent-bound cur h cursor = count-max cur h
+
+pub sent-small : (cur m : ℕ) → cur < 2 ^ 64 → 20 ≤ m → (a : Argument) → length (own a) ≤ m → length (sent cur a) ≤ m
+sent-small cur m h k (simple b) l = l
+sent-small cur m h k cursor l = let z = count-max cur h in omega arith
 
 -- a bound for it: a cursor has at most 20 digits
 pub record Bounded (s : Bytes) (cur at : ℕ) : Type 0 where
@@ -154,17 +160,19 @@ pub packed-length : (s : Bytes) (cur n at : ℕ) → length (packed (texts cur (
 packed-length s cur n at =
     ap length (command-pieces s cur n at) ∙ length-append (head 42 n) (blobs_at s cur n at) ∙ ap (λ (k : ℕ). k + length (blobs_at s cur n at)) (head-length 42 n)
 
--- one more argument written
-pub blobs-room : (d₀ all d s : Bytes) (cur m n at to e : ℕ) → m ≡ n + 1 → Copied d₀ to all d e (blobs_at s cur m at)
-    → e + length (blob (sent cur (arg_at s at))) ≤ length d
-blobs-room d₀ all d s cur m n at to e q w =
-    copied-room d₀ all d (blob (sent cur (arg_at s at))) (blobs_at s cur m at) (blobs_at s cur n (next_at s at)) to e (blobs-more s cur m n at q) w
+-- k's first, and the others
+module _ (s : Bytes) (cur : ℕ) (k : Args) (a : Arg) (r : Args) (w : Stepped s k a r) where
+  pub sent-more : blob_bytes (texts cur (args_of s k)) ≡ blob (sent cur (argument_of s a)) ++ blob_bytes (texts cur (args_of s r))
+  unfolding blob_bytes texts
+  sent-more = ap (λ (l : List Argument). blob_bytes (texts cur l)) w.are
 
--- the first is written
-pub blobs-step : (d₀ all d d₁ s : Bytes) (cur m n at to e f k : ℕ) → m ≡ n + 1 → k ≡ size_at s at → f ≡ e + length (blob (sent cur (arg_at s at)))
-    → d₁ ≡ put d e (blob (sent cur (arg_at s at))) → Copied d₀ to all d e (blobs_at s cur m at) → Copied d₀ to all d₁ f (blobs_at s cur n (at + 5 + k))
-blobs-step d₀ all d d₁ s cur m n at to e f k q z p u w =
-    rw z (copied_next d₀ all d d₁ (blob (sent cur (arg_at s at))) (blobs_at s cur m at) (blobs_at s cur n (next_at s at)) to e f (blobs-more s cur m n at q) p u w)
+  -- how long they are
+  pub sent-length : length (blob_bytes (texts cur (args_of s k)))
+      ≡ 5 + length (digits (length (sent cur (argument_of s a)))) + length (sent cur (argument_of s a)) + length (blob_bytes (texts cur (args_of s r)))
+  sent-length =
+      ap length sent-more
+      ∙ length-append (blob (sent cur (argument_of s a))) (blob_bytes (texts cur (args_of s r)))
+      ∙ ap (λ (z : ℕ). z + length (blob_bytes (texts cur (args_of s r)))) (blob-length (sent cur (argument_of s a)))
 
 -- a head, and then the rest
 pub two-wrote : (d d₁ d₂ x y all : Bytes) (to e f : ℕ) → all ≡ x ++ y → to + length all ≤ length d → e ≡ to + length x → d₁ ≡ put d to x

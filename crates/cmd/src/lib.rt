@@ -7,10 +7,10 @@ ghost use Rattle.std.specs.Prelude.{◌≡◌, ℕ, ◌+◌, ◌≤◌, length};
 ghost use Rattle.buffer.specs.Part.{put};
 ghost use Rattle.config.specs.Limits.{max_bytes, max_arguments};
 ghost use Rattle.decimal.specs.Digits.{digits};
-ghost use Rattle.cursor.specs.At.{arg_at, args_of, ArgIn, ArgsHere};
+ghost use Rattle.cursor.specs.At.{argument_of, PlaceIn, args_of, ArgsHere};
 ghost use Rattle.cmd.specs.Pack.{sent, texts, head, blob, blob_bytes, packed, pttl_texts, caching_texts, multi_texts, exec_texts};
 
-use cursor::Args;
+use cursor::{Arg, Args};
 
 // A mark, a number and CR LF.
 pub fn write_head(dst: &mut [u8], to: usize, mark: u8, n: u64) -> usize
@@ -46,19 +46,15 @@ pub fn write_number(dst: &mut [u8], to: usize, v: u64) -> usize
     f + 2
 }
 
-// The argument at `at`, as a blob.
-fn write_argument(s: &[u8], at: usize, cursor: u64, dst: &mut [u8], to: usize) -> usize
-    requires { ArgIn s.now at × (to + length (blob (sent cursor (arg_at s.now at))) ≤ length dst.old) }
-    ensures { (result ≡ to + length (blob (sent cursor (arg_at s.now at))))
-        × (dst.new ≡ put dst.old to (blob (sent cursor (arg_at s.now at)))) }
+// An argument, as a blob.
+fn write_argument(s: &[u8], arg: Arg, cursor: u64, dst: &mut [u8], to: usize) -> usize
+    requires { PlaceIn s.now arg × (to + length (blob (sent cursor (argument_of s.now arg))) ≤ length dst.old) }
+    ensures { (result ≡ to + length (blob (sent cursor (argument_of s.now arg))))
+        × (dst.new ≡ put dst.old to (blob (sent cursor (argument_of s.now arg)))) }
 {
-    if s[at] == 0 {
-        let n = buffer::read_u32(s, at + 1) as usize;
-        let start = at + 5;
-        let end = start + n;
-        write_blob(dst, to, &s[start..end])
-    } else {
-        write_number(dst, to, cursor)
+    match arg {
+        Arg::Simple(g) => write_blob(dst, to, cursor::bytes_in(s, g)),
+        Arg::Cursor => write_number(dst, to, cursor),
     }
 }
 
@@ -68,13 +64,9 @@ fn write_arguments(s: &[u8], k: Args, cursor: u64, dst: &mut [u8], to: usize) ->
     ensures { (result ≡ to + length (blob_bytes (texts cursor (args_of s.now k))))
         × (dst.new ≡ put dst.old to (blob_bytes (texts cursor (args_of s.now k)))) }
 {
-    let mut at = k.at;
-    let mut left = k.left;
     let mut next = to;
-    while left > 0 {
-        next = write_argument(s, at, cursor, dst, next);
-        at = at + 5 + buffer::read_u32(s, at + 1) as usize;
-        left -= 1;
+    for arg in cursor::args_iter(s, k) {
+        next = write_argument(s, arg, cursor, dst, next);
     }
     next
 }
@@ -104,15 +96,14 @@ pub fn bulklen(len: usize) -> usize
     5 + decimal::countdigits(len as u64) + len
 }
 
-// How long the argument at `at` is as it is sent.
-fn sent_len(s: &[u8], at: usize, cursor: u64) -> usize
-    requires { ArgIn s.now at }
-    ensures { result ≡ length (sent cursor (arg_at s.now at)) }
+// How long an argument is as it is sent.
+fn sent_len(s: &[u8], arg: Arg, cursor: u64) -> usize
+    requires { PlaceIn s.now arg }
+    ensures { result ≡ length (sent cursor (argument_of s.now arg)) }
 {
-    if s[at] == 0 {
-        buffer::read_u32(s, at + 1) as usize
-    } else {
-        decimal::countdigits(cursor)
+    match arg {
+        Arg::Simple(g) => cursor::bytes_in(s, g).len(),
+        Arg::Cursor => decimal::countdigits(cursor),
     }
 }
 
@@ -121,13 +112,9 @@ pub fn args_len(s: &[u8], k: Args, cursor: u64) -> usize
     requires { ArgsHere s.now k × (length s.now ≤ max_bytes) × (k.left ≤ max_arguments) }
     ensures { result ≡ length (packed (texts cursor (args_of s.now k))) }
 {
-    let mut at = k.at;
-    let mut left = k.left;
     let mut total = head_len(k.left as u64);
-    while left > 0 {
-        total += bulklen(sent_len(s, at, cursor));
-        at = at + 5 + buffer::read_u32(s, at + 1) as usize;
-        left -= 1;
+    for arg in cursor::args_iter(s, k) {
+        total += bulklen(sent_len(s, arg, cursor));
     }
     total
 }
@@ -142,6 +129,8 @@ pub fn write_pttl(dst: &mut [u8], to: usize, key: &[u8]) -> usize
     write_blob(dst, to + 14, key)
 }
 
+// Kept: no plainer as one writer over an enum of the fixed commands: each here is one byte string and its length, and the calls of `multi_len`, `write_multi`
+// and the others would each name a variant besides.
 // How long `CLIENT CACHING YES` is when packed.
 pub fn client_caching_len() -> usize
     ensures { result ≡ length (packed caching_texts) }

@@ -10,11 +10,11 @@ use Rattle.buffer.specs.Cases.{by_test}
 use Rattle.buffer.specs.Same.{Bytes, same}
 use Rattle.buffer.specs.SameLaws.{same-append, same_length}
 use Rattle.buffer.specs.Part.{part}
-use Rattle.buffer.specs.PartLaws.{length_part}
-use Rattle.cursor.specs.At.{size_at, next_at, args_at, ArgIn, ArgsIn}
-use Rattle.cursor.specs.Steps.{in-more, args_none, args_more}
-use Rattle.cursor.specs.Index.{own_is}
-use Rattle.buffer.specs.Copied.{Copied, copied-room}
+use Rattle.cursor.specs.declared.Arg.{Arg}
+use Rattle.cursor.specs.declared.Args.{Args}
+use Rattle.cursor.specs.At.{own, argument_of, args_of, size_at, next_at, arg_at, args_at, ArgsIn}
+use Rattle.cursor.specs.Steps.{Stepped, in-more, args_none, args_more}
+use Rattle.cursor.specs.Index.{own-length}
 use Rattle.command_key.specs.Key.{command_key}
 
 -- ---- one more argument
@@ -23,50 +23,32 @@ use Rattle.command_key.specs.Key.{command_key}
 abbrev pub joined_at : Bytes → ℕ → ℕ → Bytes
 joined_at s m at = command_key (args_at s m at)
 
--- the bytes of one argument's own, as they are cut out
-abbrev pub cut_at : Bytes → ℕ → ℕ → Bytes
-cut_at s at n = take (at + 5 + n - (at + 5)) (drop (at + 5) s)
-
--- no argument is left
+-- none is left
 pub joined-none : (s : Bytes) (m at : ℕ) → m ≡ 0 → joined_at s m at ≡ []
 unfolding command_key
 joined-none s m at q = rw (args_none s m at q)
 
--- the first, and the others
-pub joined-more : (s : Bytes) (m n at : ℕ) → m ≡ n + 1 → ArgsIn s m at → joined_at s m at ≡ part s (at + 5) (size_at s at) ++ joined_at s n (next_at s at)
-unfolding command_key
-joined-more s m n at q w =
-    ap command_key (args_more s m n at q) ∙ ap (λ (x : Bytes). x ++ joined_at s n (next_at s at)) (own_is s at (in-more s m n at q w).0)
-
--- how long they are
+-- the first's own bytes, and the others'
 pub joined_length : (s : Bytes) (m n at : ℕ) → m ≡ n + 1 → ArgsIn s m at → length (joined_at s m at) ≡ size_at s at + length (joined_at s n (next_at s at))
+unfolding command_key
 joined_length s m n at q w =
-    let i = (in-more s m n at q w).0.inside in
-    ap length (joined-more s m n at q w)
-    ∙ length-append (part s (at + 5) (size_at s at)) (joined_at s n (next_at s at))
-    ∙ ap (λ (z : ℕ). z + length (joined_at s n (next_at s at))) (length_part s (at + 5) (size_at s at) (omega arith))
+    ap (λ l. length (command_key l)) (args_more s m n at q)
+    ∙ length-append (own (arg_at s at)) (joined_at s n (next_at s at))
+    ∙ ap (λ (z : ℕ). z + length (joined_at s n (next_at s at))) (own-length s at (in-more s m n at q w).0)
 
--- what is cut out is the part
-pub cut-is : (s : Bytes) (at n : ℕ) → n ≡ size_at s at → cut_at s at n ≡ part s (at + 5) (size_at s at)
-unfolding part
-cut-is s at n e = let z : at + 5 + n - (at + 5) ≡ size_at s at = omega arith in rw z
+-- none is left before a cursor
+pub key-none : (s : Bytes) (k : Args) → k.left ≡ 0 → command_key (args_of s k) ≡ []
+key-none s k q = joined-none s k.left k.at q
 
--- how long it is
-pub cut-length : (s : Bytes) (at n : ℕ) → n ≡ size_at s at → ArgIn s at → length (cut_at s at n) ≡ n
-cut-length s at n e w = let i = w.inside in ap length (cut-is s at n e) ∙ length_part s (at + 5) (size_at s at) (omega arith) ∙ sym e
+module _ (s : Bytes) (k : Args) (a : Arg) (r : Args) (w : Stepped s k a r) where
+  -- the first argument's own bytes, and the others'
+  pub key-more : command_key (args_of s k) ≡ own (argument_of s a) ++ command_key (args_of s r)
+  unfolding command_key
+  key-more = ap command_key w.are
 
--- the first argument's bytes as they are cut out, and the others
-pub joined-cut : (s : Bytes) (m n at k : ℕ) → m ≡ n + 1 → ArgsIn s m at → k ≡ size_at s at → joined_at s m at ≡ cut_at s at k ++ joined_at s n (at + 5 + k)
-joined-cut s m n at k q w e =
-    joined-more s m n at q w ∙ ap₂ (λ (v : Bytes) (z : ℕ). v ++ joined_at s n (at + 5 + z)) (sym (cut-is s at k e)) (sym e)
-
--- ---- copied
-
--- room for the next argument's bytes
-pub cut-room : (d₀ all d s : Bytes) (m n at k to e : ℕ) → m ≡ n + 1 → ArgsIn s m at → k ≡ size_at s at → Copied d₀ to all d e (joined_at s m at)
-    → e + length (cut_at s at k) ≤ length d
-cut-room d₀ all d s m n at k to e q w p c =
-    copied-room d₀ all d (cut_at s at k) (joined_at s m at) (joined_at s n (at + 5 + k)) to e (joined-cut s m n at k q w p) c
+  -- how long they are
+  pub key-length : length (command_key (args_of s k)) ≡ length (own (argument_of s a)) + length (command_key (args_of s r))
+  key-length = ap length key-more ∙ length-append (own (argument_of s a)) (command_key (args_of s r))
 
 -- ---- compared
 
@@ -82,35 +64,30 @@ same-nil t d h =
     ends [] q = unfold same in refl
     ends (y ∷ x) q = absurd (omega arith)
 
-module _ (s t : Bytes) (m n at d k : ℕ) (q : m ≡ n + 1) (w : ArgsIn s m at) (e : k ≡ size_at s at) (h : d ≤ length t) where
+-- x and the others are compared with t from d on
+module _ (t all x others : Bytes) (d : ℕ) (q : all ≡ x ++ others) (h : d ≤ length t) where
   -- too long
-  pub same-long : length t < d + k → same (drop d t) (joined_at s m at) ≡ false
+  pub same-long : length t < d + length x → same (drop d t) all ≡ false
   same-long l =
-      let x = length-drop d t in
-      let y = joined_length s m n at q w in
-      same_length (drop d t) (joined_at s m at) (λ z. omega arith)
+      let n = length-drop d t in
+      let m = ap length q ∙ length-append x others in
+      same_length (drop d t) all (λ z. omega arith)
 
-  -- one piece, and the others
-  piece : d + k ≤ length t
-      → same (drop d t) (joined_at s m at) ≡ cond (same (part t d (length (cut_at s at k))) (cut_at s at k))
-      (same (drop (d + k) t) (joined_at s n (at + 5 + k))) false
+  -- x, and the others
+  piece : d + length x ≤ length t
+      → same (drop d t) all ≡ cond (same (part t d (length x)) x) (same (drop (d + length x) t) others) false
   unfolding part
   piece r =
-      let x : Bytes = cut_at s at k in
-      let y : Bytes = joined_at s n (at + 5 + k) in
       let u : Bytes = drop d t in
-      let l : length x ≡ k = cut-length s at k e (in-more s m n at q w).0 in
       let i : length (take (length x) u) ≡ length x = length-take-le (length x) u (omega (arith, length-drop d t)) in
-      let g : drop (length x) u ≡ drop (d + k) t = ap (λ (z : ℕ). drop z u) l ∙ drop-drop k d t in
-      ap₂ same (sym (take-append-drop (length x) u)) (joined-cut s m n at k q w e)
-      ∙ same-append (take (length x) u) (drop (length x) u) x y i
-      ∙ ap (λ (z : Bytes). cond (same (take (length x) u) x) (same z y) false) g
+      ap₂ same (sym (take-append-drop (length x) u)) q
+      ∙ same-append (take (length x) u) (drop (length x) u) x others i
+      ∙ ap (λ (z : Bytes). cond (same (take (length x) u) x) (same z others) false) (drop-drop (length x) d t)
 
   -- another piece
-  pub same-no : d + k ≤ length t → same (part t d (length (cut_at s at k))) (cut_at s at k) ≡ false → same (drop d t) (joined_at s m at) ≡ false
+  pub same-no : d + length x ≤ length t → same (part t d (length x)) x ≡ false → same (drop d t) all ≡ false
   same-no r z = piece r ∙ rw z
 
   -- the same piece
-  pub same-yes : d + k ≤ length t → same (part t d (length (cut_at s at k))) (cut_at s at k) ≡ true
-      → same (drop d t) (joined_at s m at) ≡ same (drop (d + k) t) (joined_at s n (at + 5 + k))
+  pub same-yes : d + length x ≤ length t → same (part t d (length x)) x ≡ true → same (drop d t) all ≡ same (drop (d + length x) t) others
   same-yes r z = piece r ∙ rw z

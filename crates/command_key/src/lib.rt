@@ -26,14 +26,9 @@ fn joined_len(s: &[u8], k: Args) -> usize
     requires { ArgsHere s.now k }
     ensures { result ≡ length (command_key (args_of s.now k)) }
 {
-    let mut at = k.at;
-    let mut left = k.left;
     let mut total = 0;
-    while left > 0 {
-        let n = buffer::read_u32(s, at + 1) as usize;
-        total += n;
-        at = at + 5 + n;
-        left -= 1;
+    for arg in cursor::args_iter(s, k) {
+        total += cursor::own_bytes(s, arg).len();
     }
     total
 }
@@ -43,17 +38,11 @@ fn joined_copy(s: &[u8], k: Args, dst: &mut [u8], to: usize)
     requires { ArgsHere s.now k × (to + length (command_key (args_of s.now k)) ≤ length dst.old) }
     ensures { dst.new ≡ put dst.old to (command_key (args_of s.now k)) }
 {
-    let mut at = k.at;
-    let mut left = k.left;
     let mut next = to;
-    while left > 0 {
-        let n = buffer::read_u32(s, at + 1) as usize;
-        let start = at + 5;
-        let end = start + n;
-        buffer::copy_to(dst, next, &s[start..end]);
-        next += n;
-        at = end;
-        left -= 1;
+    for arg in cursor::args_iter(s, k) {
+        let text = cursor::own_bytes(s, arg);
+        buffer::copy_to(dst, next, text);
+        next += text.len();
     }
 }
 
@@ -62,23 +51,16 @@ fn joined_same(s: &[u8], k: Args, t: &[u8]) -> bool
     requires { ArgsHere s.now k }
     ensures { result ≡ same t.now (command_key (args_of s.now k)) }
 {
-    let mut at = k.at;
-    let mut left = k.left;
     let mut done = 0;
-    while left > 0 {
-        let n = buffer::read_u32(s, at + 1) as usize;
-        let start = at + 5;
-        let end = start + n;
-        if n > t.len() - done {
+    for arg in cursor::args_iter(s, k) {
+        let text = cursor::own_bytes(s, arg);
+        if text.len() > t.len() - done {
             return false;
         }
-        if buffer::same_at(t, done, &s[start..end]) {
-            done += n;
-        } else {
+        if !buffer::same_at(t, done, text) {
             return false;
         }
-        at = end;
-        left -= 1;
+        done += text.len();
     }
     done == t.len()
 }

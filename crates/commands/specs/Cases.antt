@@ -1,11 +1,10 @@
 -- The joint table's name in small letters, and worked examples, computed. Assumes nothing.
-use Rattle.std.specs.Prelude.{◌≡◌, refl, true, false, [], ◌∷◌, map, length, replicate}
+use Rattle.std.specs.Prelude.{◌≡◌, refl, true, false, [], ◌∷◌, map, length, replicate, None}
 use Prim.Native.String.{String}
 use Rattle.buffer.specs.Same.{same}
 use Rattle.buffer.specs.Ascii.{ascii}
 use Rattle.commands.specs.Names.{sole_key_names, read_only_cacheable, is_cacheable, takes_sole_key, name-defs}
 use Rattle.commands.specs.MultiKey.{multi_key, single_name}
-use Rattle.commands.specs.declared.MultiKey.TheVariants.{None}
 
 -- `get` is not cacheable
 pub get-in-small-letters : is_cacheable (ascii "get") ≡ false

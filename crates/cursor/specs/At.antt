@@ -5,6 +5,8 @@ use Rattle.buffer.specs.Same.{Bytes}
 use Rattle.buffer.specs.Part.{part}
 use Rattle.buffer.specs.Field.{read16, read32, read64}
 use Rattle.call_record.specs.Record.{Argument, simple, cursor, Command, Record}
+use Rattle.cursor.specs.declared.Arg.{Arg}
+use Rattle.cursor.specs.declared.Arg.TheVariants.{Simple, Cursor}
 use Rattle.cursor.specs.declared.Args.{Args}
 use Rattle.cursor.specs.declared.Commands.{Commands}
 use Rattle.cursor.specs.declared.Head.{Head}
@@ -23,6 +25,15 @@ range_bytes s g = part s g.start (g.end - g.start)
 
 abbrev pub RangeIn : Bytes → Range → Type 0
 RangeIn s g = (g.start ≤ g.end) × (g.end ≤ length s)
+
+-- the argument that stands at a place
+abbrev pub argument_of : Bytes → Arg → Argument
+argument_of s (Simple g) = simple (range_bytes s g)
+argument_of s Cursor = cursor
+
+abbrev pub PlaceIn : Bytes → Arg → Type 0
+PlaceIn s (Simple g) = RangeIn s g
+PlaceIn s Cursor = Unit {0}
 
 -- how many bytes the argument at `at` has of its own, and where it ends
 abbrev pub size_at : Bytes → ℕ → ℕ

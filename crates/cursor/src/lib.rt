@@ -4,33 +4,35 @@
 
 ghost use Rattle.std.specs.Prelude.{◌≡◌, ◌+◌, ◌≤◌, length};
 ghost use Rattle.call_record.specs.Record.{transaction};
-ghost use Rattle.cursor.specs.At.{range_bytes, RangeIn, args_at, args_end, ArgsIn, args_of, ArgsHere, head_at, CommandsHere, command_cursor, record_at};
-ghost use Rattle.cursor.specs.Steps.{arg_step, command_step};
-ghost use Rattle.cursor.specs.Index.{arg_idx, arg_idx_from, found_text, FoundIn};
+ghost use Rattle.cursor.specs.At.{own, range_bytes, RangeIn, argument_of, PlaceIn, args_end, args_of, ArgsHere, head_at, CommandsHere, command_cursor, record_at};
+ghost use Rattle.cursor.specs.Steps.{arg_step, IterStep, command_step};
+ghost use Rattle.std.specs.Iterator.{at_most};
+ghost use Rattle.cursor.specs.Index.{arg_idx, found_text, FoundIn};
 
 // A part of a slice: from `start` up to, not including, `end`.
-#[derive(Clone, Copy)]
+#[derive(Clone, Copy, PartialEq, Eq, Debug)]
 pub struct Range {
     pub start: usize,
     pub end: usize,
 }
 
 // A cursor over arguments: where the next one stands, and how many are left.
-#[derive(Clone, Copy)]
+#[derive(Clone, Copy, PartialEq, Eq, Debug)]
 pub struct Args {
     pub at: usize,
     pub left: usize,
 }
 
 // A cursor over commands: where the next one stands, and how many are left.
-#[derive(Clone, Copy)]
+// Kept: no plainer as one type with `Args`, which would let a cursor over commands pass for one over arguments; a generic one needs a marker for what it goes over.
+#[derive(Clone, Copy, PartialEq, Eq, Debug)]
 pub struct Commands {
     pub at: usize,
     pub left: usize,
 }
 
 // A command's fields, with a cursor over its arguments.
-#[derive(Clone, Copy)]
+#[derive(Clone, Copy, PartialEq, Eq, Debug)]
 pub struct Head {
     pub flags: u8,
     pub ttl: u64,
@@ -38,26 +40,12 @@ pub struct Head {
     pub args: Args,
 }
 
-// The next argument, where there is one: its bytes' place, or the cursor; and a cursor over those behind it.
-#[derive(Clone, Copy)]
-pub enum NextArg {
-    Done,
-    Simple(Range, Args),
-    Cursor(Args),
-}
-
-// The next command, where there is one, and a cursor over those behind it.
-#[derive(Clone, Copy)]
-pub enum NextCommand {
-    Done,
-    Command(Head, Commands),
-}
-
-// An argument's bytes, where it is there.
-#[derive(Clone, Copy)]
-pub enum ArgAt {
-    Found(Range),
-    NotThere,
+// An argument: its bytes' place, or the mark at which the command's cursor goes.
+// Kept: no plainer as an Option, since a cursor is an argument that is there, and `next_arg` answers an Option of one.
+#[derive(Clone, Copy, PartialEq, Eq, Debug)]
+pub enum Arg {
+    Simple(Range),
+    Cursor,
 }
 
 // The bytes of a range, as a part of the slice.
@@ -70,32 +58,68 @@ pub fn bytes_in(s: &[u8], g: Range) -> &[u8]
     &s[a..e]
 }
 
-pub fn next_arg(s: &[u8], k: Args) -> NextArg
+// The bytes of an argument's own: a cursor has none.
+pub fn own_bytes(s: &[u8], arg: Arg) -> &[u8]
+    requires { PlaceIn s.now arg }
+    ensures { result.now ≡ own (argument_of s.now arg) }
+{
+    match arg {
+        Arg::Simple(g) => bytes_in(s, g),
+        Arg::Cursor => &[],
+    }
+}
+
+// The next argument, where there is one, and a cursor over those behind it.
+pub fn next_arg(s: &[u8], k: Args) -> Option<(Arg, Args)>
     requires { ArgsHere s.now k }
     ensures { result ≡ arg_step s.now k }
 {
     let at = k.at;
-    let left = k.left;
-    if left == 0 {
-        return NextArg::Done;
+    if k.left == 0 {
+        return None;
     }
     let start = at + 5;
     let end = start + buffer::read_u32(s, at + 1) as usize;
     let rest = Args {
         at: end,
-        left: left - 1,
+        left: k.left - 1,
     };
     if s[at] == 0 {
-        NextArg::Simple(
-            Range {
-                start: start,
-                end: end,
-            },
-            rest,
-        )
+        Some((Arg::Simple(Range { start, end }), rest))
     } else {
-        NextArg::Cursor(rest)
+        Some((Arg::Cursor, rest))
     }
+}
+
+// The arguments one after the other.
+#[derive(Drop)]
+pub struct ArgsIter<'a> {
+    pub bytes: &'a [u8],
+    pub rest: Args,
+}
+
+impl<'a> Iterator for ArgsIter<'a> {
+    type Item = Arg;
+
+    ghost can_next = { λ s. ArgsHere s.bytes.now s.rest };
+
+    ghost next_gives = { λ s r t. (t.bytes ≡ s.bytes) × IterStep s.bytes.now s.rest r t.rest };
+
+    ghost remaining = { λ s. at_most s.rest.left };
+
+    fn next(&mut self) -> Option<Arg> {
+        let (arg, rest) = next_arg(self.bytes, self.rest)?;
+        self.rest = rest;
+        Some(arg)
+    }
+}
+
+// The arguments that a cursor over them has before it.
+pub fn args_iter(s: &[u8], k: Args) -> ArgsIter
+    requires { ArgsHere s.now k }
+    ensures { (result.bytes.now ≡ s.now) × (result.rest ≡ k) }
+{
+    ArgsIter { bytes: s, rest: k }
 }
 
 // Where the arguments end.
@@ -103,58 +127,35 @@ pub fn args_end(s: &[u8], k: Args) -> usize
     requires { ArgsHere s.now k }
     ensures { result ≡ args_end s.now k.left k.at }
 {
-    let mut at = k.at;
-    let mut left = k.left;
-    while left > 0 {
-        at = at + 5 + buffer::read_u32(s, at + 1) as usize;
-        left -= 1;
+    let mut k = k;
+    while let Some((_, rest)) = next_arg(s, k) {
+        k = rest;
     }
-    at
-}
-
-// The first of n arguments from `at` on, with `before` bytes in `cmd.data` before it.
-fn found_at(s: &[u8], at: usize, n: usize, before: usize) -> ArgAt
-    requires { ArgsIn s.now n at × (before ≤ at) }
-    ensures { (found_text s.now result ≡ arg_idx_from before (args_at s.now n at) 0) × FoundIn s.now result }
-{
-    if n == 0 {
-        return ArgAt::NotThere;
-    }
-    if s[at] != 0 {
-        return ArgAt::NotThere;
-    }
-    let size = buffer::read_u32(s, at + 1) as usize;
-    let start = at + 5;
-    let end = start + size;
-    if before + size == 0 {
-        return ArgAt::NotThere;
-    }
-    ArgAt::Found(Range {
-        start: start,
-        end: end,
-    })
+    k.at
 }
 
 // Argument idx, where it is there: not one past the last, no cursor, and no empty name.
-pub fn arg_idx(s: &[u8], k: Args, idx: usize) -> ArgAt
+pub fn arg_idx(s: &[u8], k: Args, idx: usize) -> Option<Range>
     requires { ArgsHere s.now k }
     ensures { (found_text s.now result ≡ arg_idx (args_of s.now k) idx) × FoundIn s.now result }
 {
-    let mut at = k.at;
-    let mut left = k.left;
-    let mut i = idx;
+    let mut k = k;
+    // The bytes of those before it.
     let mut before = 0;
-    while i > 0 {
-        if left == 0 {
-            return ArgAt::NotThere;
-        }
-        let size = buffer::read_u32(s, at + 1) as usize;
-        before += size;
-        at = at + 5 + size;
-        left -= 1;
-        i -= 1;
+    for _ in 0..idx {
+        let (arg, rest) = next_arg(s, k)?;
+        before += own_bytes(s, arg).len();
+        k = rest;
     }
-    found_at(s, at, left, before)
+    let (arg, _) = next_arg(s, k)?;
+    let g = match arg {
+        Arg::Simple(g) => g,
+        Arg::Cursor => return None,
+    };
+    if before + (g.end - g.start) == 0 {
+        return None;
+    }
+    Some(g)
 }
 
 // The fields of the command at `at`.
@@ -177,25 +178,20 @@ pub fn head_at(s: &[u8], at: usize) -> Head
     }
 }
 
-pub fn next_command(s: &[u8], k: Commands) -> NextCommand
+// The next command, where there is one, and a cursor over those behind it.
+pub fn next_command(s: &[u8], k: Commands) -> Option<(Head, Commands)>
     requires { CommandsHere s.now k }
     ensures { result ≡ command_step s.now k }
 {
-    let at = k.at;
-    let left = k.left;
-    if left == 0 {
-        return NextCommand::Done;
+    if k.left == 0 {
+        return None;
     }
-    let head = head_at(s, at);
-    let args = head.args;
-    let end = args_end(s, args);
-    NextCommand::Command(
-        head,
-        Commands {
-            at: end,
-            left: left - 1,
-        },
-    )
+    let head = head_at(s, k.at);
+    let rest = Commands {
+        at: args_end(s, head.args),
+        left: k.left - 1,
+    };
+    Some((head, rest))
 }
 
 // A cursor over all commands of a checked record.

@@ -73,10 +73,6 @@ step dst₀ at v w (suc j) dst r h =
       room = r.room;
     }
 
--- the length stays
-pub written-length : (dst₀ : List ℕ) (at v w i : ℕ) (dst : List ℕ) → Written dst₀ at v w i dst → length dst ≡ length dst₀
-written-length dst₀ at v w i dst r = ap length r.is ∙ length-put dst₀ r.tail i (omega arith)
-
 -- after the last turn all digits are put
 pub done : (dst₀ : List ℕ) (at v w i : ℕ) (dst : List ℕ) → Written dst₀ at v w i dst → i ≡ at → dst ≡ put dst₀ at (digits v)
 done dst₀ at v w i dst r h =

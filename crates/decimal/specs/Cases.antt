@@ -1,9 +1,7 @@
 -- The joint table's numbers of digits, and worked examples of reading, computed. Assumes nothing.
-use Rattle.std.specs.Prelude.{◌≡◌, refl, List, [], ◌∷◌, ◌++◌, ℕ, length}
+use Rattle.std.specs.Prelude.{◌≡◌, refl, List, [], ◌∷◌, ◌++◌, ℕ, length, Option, Some, None}
 use Rattle.decimal.specs.Digits.{digits}
 use Rattle.decimal.specs.Read.{crlf_b, ended_def, fin_def, num_def}
-use Rattle.decimal.specs.declared.Num.{Num}
-use Rattle.decimal.specs.declared.Num.TheVariants.{Val, Bad}
 
 -- the least and the greatest number of so many digits
 abbrev pub Ends : ℕ → ℕ → ℕ → Type 0
@@ -59,40 +57,40 @@ digit-ranges =
     }
 
 -- what a limit of 20 makes of bytes and a CR LF
-reads : List ℕ → Num
+reads : List ℕ → Option (ℕ × ℕ)
 reads s = num_def 20 (s ++ (13 ∷ 10 ∷ [])) 0
 
 -- `0` is read, and so is `20`; `21` is above the limit
-read-0 : reads (48 ∷ []) ≡ Val 0 3
+read-0 : reads (48 ∷ []) ≡ Some (0, 3)
 unfolding reads num_def fin_def ended_def crlf_b
 read-0 = refl
 
-read-20 : reads (50 ∷ 48 ∷ []) ≡ Val 20 4
+read-20 : reads (50 ∷ 48 ∷ []) ≡ Some (20, 4)
 unfolding reads num_def fin_def ended_def crlf_b
 read-20 = refl
 
-read-21 : reads (50 ∷ 49 ∷ []) ≡ Bad
+read-21 : reads (50 ∷ 49 ∷ []) ≡ None
 unfolding reads num_def fin_def ended_def crlf_b
 read-21 = refl
 
 -- no plus sign, no minus sign, no leading zero, no empty number
-read-plus : reads (43 ∷ 49 ∷ []) ≡ Bad
+read-plus : reads (43 ∷ 49 ∷ []) ≡ None
 unfolding reads num_def fin_def ended_def crlf_b
 read-plus = refl
 
-read-minus : reads (45 ∷ 48 ∷ []) ≡ Bad
+read-minus : reads (45 ∷ 48 ∷ []) ≡ None
 unfolding reads num_def fin_def ended_def crlf_b
 read-minus = refl
 
-read-leading-zero : reads (48 ∷ 49 ∷ []) ≡ Bad
+read-leading-zero : reads (48 ∷ 49 ∷ []) ≡ None
 unfolding reads num_def fin_def ended_def crlf_b
 read-leading-zero = refl
 
-read-nothing : reads [] ≡ Bad
+read-nothing : reads [] ≡ None
 unfolding reads num_def fin_def ended_def crlf_b
 read-nothing = refl
 
 -- a CR alone is no end
-read-cr : num_def 20 (49 ∷ 13 ∷ 13 ∷ []) 0 ≡ Bad
+read-cr : num_def 20 (49 ∷ 13 ∷ 13 ∷ []) 0 ≡ None
 unfolding num_def fin_def ended_def crlf_b
 read-cr = refl

@@ -1,12 +1,11 @@
 -- What is written is read: a number's digits and CR LF are read as that number. Assumes nothing.
-use Rattle.std.specs.Prelude.{◌≡◌, true, List, [], ◌∷◌, ◌++◌, ℕ, zero, suc, ◌+◌, ◌*◌, ◌-◌, ◌/◌, ◌%◌, ◌<◌, ◌≤◌, length, get_or, drop}
+use Rattle.std.specs.Prelude.{◌≡◌, true, List, [], ◌∷◌, ◌++◌, ℕ, zero, suc, ◌+◌, ◌*◌, ◌-◌, ◌/◌, ◌%◌, ◌<◌, ◌≤◌, length, get_or, drop, Some}
 use Rattle.std.proofs.Common.{sym, ap, ◌∙◌, append_assoc, arith, le-leb}
 use Rattle.decimal.specs.Digits.{digits}
 use Rattle.decimal.specs.DigitLaws.{digits-one, digits_more, count-one, count-more, digits-cases, count-pos}
 use Rattle.buffer.specs.Places.{first, after, get_or-drop0}
 use Rattle.decimal.specs.Read.{digit_b, crlf_b, lead, val_acc, ended_def, fin_def, num_def}
 use Rattle.decimal.specs.ReadLaws.{num-zero, num-more, fin-within}
-use Rattle.decimal.specs.declared.Num.TheVariants.{Val}
 
 -- 48 and a number below ten is a digit
 digit-is : (d : ℕ) → d < 10 → digit_b (48 + d) ≡ true
@@ -45,13 +44,13 @@ unfolding crlf_b
 crlf-law s e r h = rw (first s e 13 (10 ∷ r) h, first s (e + 1) 10 r (after s e (13 ∷ []) (10 ∷ r) h))
 
 -- a number within the limit with CR LF behind it is read
-fin-ok : (lim : ℕ) (s : List ℕ) (e v : ℕ) (r : List ℕ) → v ≤ lim → drop e s ≡ 13 ∷ 10 ∷ r → fin_def lim s e v ≡ Val v (e + 2)
+fin-ok : (lim : ℕ) (s : List ℕ) (e v : ℕ) (r : List ℕ) → v ≤ lim → drop e s ≡ 13 ∷ 10 ∷ r → fin_def lim s e v ≡ Some (v, e + 2)
 unfolding ended_def
 fin-ok lim s e v r h c = fin-within lim s e v h ∙ rw (crlf-law s e r c)
 
 -- what is written is read: digits of a number within the limit, then CR LF, are read as that number up to behind the LF
 pub num-law : (lim : ℕ) (s : List ℕ) (at n : ℕ) (r : List ℕ) → n ≤ lim → drop at s ≡ digits n ++ (13 ∷ 10 ∷ r)
-    → num_def lim s at ≡ Val n (at + length (digits n) + 2)
+    → num_def lim s at ≡ Some (n, at + length (digits n) + 2)
 num-law lim s at zero r h e =
     let d = digits-one 0 (omega arith) in
     let e' : drop at s ≡ 48 ∷ 13 ∷ 10 ∷ r = rw d at e in

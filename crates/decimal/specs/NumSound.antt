@@ -1,5 +1,5 @@
 -- What is read as a number is its digits and CR LF. Assumes nothing.
-use Rattle.std.specs.Prelude.{◌≡◌, refl, true, List, [], ◌∷◌, ◌++◌, ℕ, ◌+◌, ◌*◌, ◌-◌, ◌/◌, ◌%◌, ◌<◌, ◌≤◌, eqb, get_or, take, drop}
+use Rattle.std.specs.Prelude.{◌≡◌, refl, true, List, [], ◌∷◌, ◌++◌, ℕ, ◌+◌, ◌*◌, ◌-◌, ◌/◌, ◌%◌, ◌<◌, ◌≤◌, eqb, get_or, take, drop, Some}
 use Rattle.std.proofs.Common.{sym, ◌∙◌, append_assoc, append-nil, arith, take-append-drop, drop-drop, eqb-true}
 use Rattle.buffer.specs.Cases.{by_test}
 use Rattle.decimal.specs.Digits.{digits}
@@ -7,7 +7,6 @@ use Rattle.decimal.specs.DigitLaws.{digits-one, digits_more}
 use Rattle.buffer.specs.Places.{inside, get_or-drop0, step}
 use Rattle.decimal.specs.Read.{digit_b, crlf_b, lead, val_acc, num_def}
 use Rattle.decimal.specs.ReadLaws.{both_true, digit-range, crlf-in, num-says}
-use Rattle.decimal.specs.declared.Num.TheVariants.{Val}
 
 -- CR LF that is found stands there
 pub crlf-sound : (s : List ℕ) (e : ℕ) → crlf_b s e ≡ true → drop e s ≡ 13 ∷ 10 ∷ drop (e + 2) s
@@ -49,7 +48,7 @@ whole (x ∷ l) h g =
     (λ e. absurd (h (rw e)))
 
 -- what is read is within the limit, and is its digits, then CR LF, up to the place that is answered
-pub num-sound : (lim : ℕ) (s : List ℕ) (at n e : ℕ) → num_def lim s at ≡ Val n e → (n ≤ lim) × (drop at s ≡ digits n ++ (13 ∷ 10 ∷ drop e s))
+pub num-sound : (lim : ℕ) (s : List ℕ) (at n e : ℕ) → num_def lim s at ≡ Some (n, e) → (n ≤ lim) × (drop at s ≡ digits n ++ (13 ∷ 10 ∷ drop e s))
 num-sound lim s at n e h =
     num-says lim s at n e h
     (λ z f. (f.limit, step s at (inside s at (omega arith)) ∙ rw (z, crlf-sound s (at + 1) f.crlf, f.ended, ← f.value, digits-one 0 (omega arith))))

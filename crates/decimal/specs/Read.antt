@@ -1,8 +1,6 @@
 -- What reading a canonical number with its CR LF finds. Assumes nothing: these are definitions. That they are right is said by
 -- num-law (NumLaw.antt: what is written is read) and num-sound (NumSound.antt: what is read is a number's digits and CR LF).
-use Rattle.std.specs.Prelude.{Bool, true, false, cond, List, [], ◌∷◌, ℕ, suc, ◌+◌, ◌*◌, ◌-◌, leb, eqb, get_or, drop}
-use Rattle.decimal.specs.declared.Num.{Num}
-use Rattle.decimal.specs.declared.Num.TheVariants.{Val, Bad}
+use Rattle.std.specs.Prelude.{Bool, true, false, cond, List, [], ◌∷◌, ℕ, suc, ◌+◌, ◌*◌, ◌-◌, leb, eqb, get_or, drop, Option, Some, None}
 
 -- both tests hold
 abbrev pub both : Bool → Bool → Bool
@@ -28,21 +26,29 @@ val_acc a [] = a
 val_acc a (x ∷ xs) = cond (digit_b x) (val_acc (a * 10 + (x - 48)) xs) a
 
 -- the one answer or the other
-abbrev pub num_if : Bool → Num → Num → Num
+abbrev pub num_if : Bool → Option (ℕ × ℕ) → Option (ℕ × ℕ) → Option (ℕ × ℕ)
 num_if true a b = a
 num_if false a b = b
 
 -- a number v whose digits end at e is read, up to behind its CR LF, if CR LF stands there
-unfoldable pub ended_def : List ℕ → ℕ → ℕ → Num
-ended_def s e v = num_if (crlf_b s e) (Val v (e + 2)) Bad
+unfoldable pub ended_def : List ℕ → ℕ → ℕ → Option (ℕ × ℕ)
+ended_def s e v = num_if (crlf_b s e) (Some (v, e + 2)) None
 
 -- and if it is no more than lim
-unfoldable pub fin_def : ℕ → List ℕ → ℕ → ℕ → Num
-fin_def lim s e v = num_if (leb v lim) (ended_def s e v) Bad
+unfoldable pub fin_def : ℕ → List ℕ → ℕ → ℕ → Option (ℕ × ℕ)
+fin_def lim s e v = num_if (leb v lim) (ended_def s e v) None
 
 -- the number at `at`: a `0` alone, or all the digits that stand there, at least one
-unfoldable pub num_def : ℕ → List ℕ → ℕ → Num
+unfoldable pub num_def : ℕ → List ℕ → ℕ → Option (ℕ × ℕ)
 num_def lim s at =
     num_if (eqb (get_or s at 0) 48)
     (fin_def lim s (at + 1) 0)
-    (num_if (eqb (lead (drop at s)) 0) Bad (fin_def lim s (at + lead (drop at s)) (val_acc 0 (drop at s))))
+    (num_if (eqb (lead (drop at s)) 0) None (fin_def lim s (at + lead (drop at s)) (val_acc 0 (drop at s))))
+
+-- the value of the digits at `at`, and the place after them: a `0` alone, or all the digits that stand there, at least one, of no more than lim
+unfoldable pub digits_at : ℕ → List ℕ → ℕ → Option (ℕ × ℕ)
+digits_at lim s at =
+    num_if (eqb (get_or s at 0) 48)
+    (Some (0, at + 1))
+    (num_if (eqb (lead (drop at s)) 0) None
+    (num_if (leb (val_acc 0 (drop at s)) lim) (Some (val_acc 0 (drop at s), at + lead (drop at s))) None))

@@ -6,13 +6,14 @@ ghost use Rattle.std.specs.Prelude.{◌≡◌, ◌+◌, ◌≤◌, ltb, length, 
 ghost use Rattle.buffer.specs.Part.{put};
 ghost use Rattle.decimal.specs.Digits.{digits};
 ghost use Rattle.decimal.specs.Ranges.{Holds};
-ghost use Rattle.decimal.specs.Read.{digit_b, crlf_b, ended_def, num_def};
+ghost use Rattle.decimal.specs.Read.{digit_b, crlf_b, digits_at, num_def};
 
 // The least and the greatest number of so many digits.
 #[derive(Drop)]
 struct Range(u64, u64);
 
 // The numbers of n digits: twenty ranges, which together are all numbers of 64 bits. The last is that of 20.
+// Kept: a list with both bounds of every range, a line each, which `Holds` and the five `range_of_` edits of must-fail hold; std's `ilog10` has no such lines.
 fn range_of(n: usize) -> Range
     requires { (1 ≤ n) × (n ≤ 20) }
     ensures { Holds n result.0 result.1 }
@@ -53,19 +54,14 @@ fn has_more(v: u64, n: usize) -> bool
 pub fn countdigits(v: u64) -> usize
     ensures { result ≡ length (digits v) }
 {
-    if !has_more(v, 1) {
-        return 1;
-    }
-    if !has_more(v, 2) {
-        return 2;
-    }
-    if !has_more(v, 3) {
-        return 3;
-    }
-    if !has_more(v, 4) {
-        return 4;
+    for n in 1..=4 {
+        if !has_more(v, n) {
+            return n;
+        }
     }
     let mut n = 20;
+    // Kept: `for n in (5..20).rev()` works out every test before the first one is asked: packing a command with a cursor of 20 digits takes 1.27 times the
+    // instructions, and its length alone 2.4 times.
     while !has_more(v, n - 1) {
         n -= 1;
     }
@@ -79,41 +75,11 @@ pub fn write_digits(dst: &mut [u8], at: usize, v: u64) -> usize
 {
     let end = at + countdigits(v);
     let mut w = v;
-    let mut i = end;
-    while i > at {
-        i -= 1;
+    for i in (at..end).rev() {
         dst[i] = 48 + (w % 10) as u8;
         w /= 10;
     }
     end
-}
-
-// What reading a number finds: its value and the place after its CR LF, or that none stands there.
-#[derive(Drop)]
-pub enum Num {
-    Val(u64, usize),
-    Bad,
-}
-
-fn wide(x: u8) -> u64
-    ensures { result ≡ x }
-{
-    x as u64
-}
-
-// Whether a digit stands at i.
-fn digit_at(s: &[u8], i: usize) -> bool
-    ensures { result ≡ digit_b (get_or s.now i 0) }
-{
-    if i < s.len() {
-        let d = s[i];
-        if d < 48 {
-            return false;
-        }
-        d <= 57
-    } else {
-        false
-    }
 }
 
 // Whether CR LF stands at i.
@@ -132,43 +98,51 @@ pub fn crlf_at(s: &[u8], i: usize) -> bool
     s[i + 1] == 10
 }
 
-// A number v whose digits end at e: CR LF must stand there.
-fn ended(s: &[u8], e: usize, v: u64) -> Num
-    ensures { result ≡ ended_def s.now e v }
+// Whether b is a digit.
+fn is_digit(b: u8) -> bool
+    ensures { result ≡ digit_b b }
 {
-    if crlf_at(s, e) {
-        Num::Val(v, e + 2)
-    } else {
-        Num::Bad
+    b.is_ascii_digit()
+}
+
+// The value of the digits that stand at `at`, and the place after them: at least one, no plus sign, no leading zero, at most lim.
+// What follows them is not judged.
+pub fn digits_at(s: &[u8], at: usize, lim: u64) -> Option<(u64, usize)>
+    ensures { result ≡ digits_at lim s.now at }
+{
+    if at >= s.len() {
+        return None;
     }
+    if s[at] == 48 {
+        return Some((0, at + 1));
+    }
+    let tenth = lim / 10;
+    let mut v = 0;
+    for i in at..s.len() {
+        if !is_digit(s[i]) {
+            return if i == at { None } else { Some((v, i)) };
+        }
+        if v > tenth {
+            return None;
+        }
+        let digit = u64::from(s[i]) - 48;
+        if digit > lim - v * 10 {
+            return None;
+        }
+        v = v * 10 + digit;
+    }
+    Some((v, s.len()))
 }
 
 // Reads the number at `at`, of any number of digits: no plus sign, no leading zero, at most lim, CR LF behind it.
-pub fn read_num(s: &[u8], at: usize, lim: u64) -> Num
+// What is found is its value and the place after its CR LF.
+pub fn read_num(s: &[u8], at: usize, lim: u64) -> Option<(u64, usize)>
     ensures { result ≡ num_def lim s.now at }
 {
-    if at >= s.len() {
-        return Num::Bad;
+    let (v, e) = digits_at(s, at, lim)?;
+    if crlf_at(s, e) {
+        Some((v, e + 2))
+    } else {
+        None
     }
-    if s[at] == 48 {
-        return ended(s, at + 1, 0);
-    }
-    let tenth = lim / 10;
-    let mut i = at;
-    let mut v: u64 = 0;
-    while digit_at(s, i) {
-        if v > tenth {
-            return Num::Bad;
-        }
-        let digit = wide(s[i]) - 48;
-        if digit > lim - v * 10 {
-            return Num::Bad;
-        }
-        v = v * 10 + digit;
-        i += 1;
-    }
-    if i == at {
-        return Num::Bad;
-    }
-    ended(s, i, v)
 }

@@ -1,6 +1,6 @@
 -- The calls that the book can be told of: what holds of a refused call and of the book's calls of a kind holds of the call that any arguments of that kind
 -- make. Assumes nothing.
-use Rattle.std.specs.Prelude.{ℕ, Bool, List, [], ltb, leb, length}
+use Rattle.std.specs.Prelude.{Result, Ok, Err, ℕ, Bool, List, [], ltb, leb, length}
 use Rattle.std.proofs.Math.Option.{Option, some}
 use Rattle.std.proofs.Math.Option as option
 use Rattle.buffer.specs.Cases.{by_test}
@@ -8,15 +8,14 @@ use Rattle.buffer.specs.Same.{Bytes}
 use Rattle.config.specs.Limits.{max_bytes}
 use Rattle.config.specs.declared.CacheMode.{CacheMode}
 use Rattle.config.specs.declared.Settings.{Settings}
-use Rattle.config.specs.declared.CheckedConfig.{CheckedConfig}
-use Rattle.config.specs.declared.CheckedConfig.TheVariants.{Fine, Refused as BadConfig}
+use Rattle.std.specs.Prelude.{Ok, Err, Result}
+use Rattle.config.specs.declared.Cause.{Cause}
 use Rattle.resp3.specs.Ends.{is_value}
 use Rattle.resp3.specs.Value.{Value, Values, none, more}
 use Rattle.resp3.specs.Decode as resp
 use Rattle.resp3_element.specs.Meaning.{is_null, array_of, push_of}
 use Rattle.call_record.specs.Check.{check_def}
-use Rattle.call_record.specs.declared.Checked.{Checked}
-use Rattle.call_record.specs.declared.Checked.TheVariants.{Fine as Valid, Wrong}
+use Rattle.format.specs.declared.Wrong.{Wrong}
 use Rattle.cursor.specs.At.{record_at}
 use Rattle.book.specs.Book.{Answer, Keyed}
 use Rattle.book.specs.Calls as calls
@@ -73,12 +72,12 @@ module _ (P : Call → Type 0) where
   -- a planning, which causes 2, 3 and 4 may refuse
   module _ (g : Settings) (t e : ℕ) (bytes : Bytes) (a b : ℕ) (denied : P calls.refused)
       (done : (ws : List Wanted) (test : List Answer → Bool) → P (calls.planning t e ws test)) where
-    by-record : (x : Checked) → P (judged_call g t e bytes a b x)
+    by-record : (x : Result (Unit {0}) Wrong) → P (judged_call g t e bytes a b x)
     unfolding judged_call planned.call_of
-    by-record Valid =
+    by-record (Ok u) =
         by_test (any_late g t (record_at bytes).commands) (λ l. rw l denied)
         (λ l. rw l (done (wanted (ask g t) (record_at bytes).commands) (planned.short (ask g t) g (record_at bytes) a b)))
-    by-record (Wrong o) = denied
+    by-record (Err w) = denied
 
     pub of-planning : P (plannings.book_call g t e bytes a b)
     unfolding plannings.book_call
@@ -100,6 +99,6 @@ module _ (P : Call → Type 0) where
         by_test (is_value replies) (λ u. rw u (by_result pl.transaction (resolvings.resolve (plan_read pl) mode t (resp.decode replies)))) (λ u. rw u denied)
 
   -- any of these, which cause 1 may refuse
-  pub of-fine : (x : CheckedConfig) (call : Settings → Call) → P calls.refused → ((g : Settings) → P (call g)) → P (if_fine x call)
-  of-fine BadConfig call denied done = denied
-  of-fine (Fine g) call denied done = done g
+  pub of-fine : (x : Result Settings Cause) (call : Settings → Call) → P calls.refused → ((g : Settings) → P (call g)) → P (if_fine x call)
+  of-fine (Err cause) call denied done = denied
+  of-fine (Ok g) call denied done = done g

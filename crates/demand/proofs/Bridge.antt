@@ -8,7 +8,7 @@ use Rattle.buffer.specs.Same.{Bytes}
 use Rattle.config.specs.Config.{refused, settings_of, checked}
 use Rattle.config.specs.Laws.{passed}
 use Rattle.config.specs.declared.Settings.{Settings}
-use Rattle.config.specs.declared.CheckedConfig.TheVariants.{Fine}
+use Rattle.std.specs.Prelude.{Ok}
 use Rattle.siphash.specs.Sip.{sip_hash13}
 use Rattle.resp3.specs.Ends.{is_value}
 use Rattle.book.specs.Book as book
@@ -72,7 +72,7 @@ module _ (size n m d : ℕ) (pass : refused size m n ≡ false) where
   g = settings_of size m d n
 
   -- cause 1 lets them through, and leaves of the setup what the theorems on bytes ask
-  pub is-fine : checked size m d n ≡ Fine g
+  pub is-fine : checked size m d n ≡ Ok g
   unfolding checked
   is-fine = rw pass
 
@@ -86,7 +86,7 @@ module _ (size n m d : ℕ) (pass : refused size m n ≡ false) where
 
   module _ (q : Keyed) (bk : Book) (next : ℕ) (w : WellFormed is_value p bk.rows) where
     -- so it does for what is lent from a book
-    pub held-fine : checked size m d (length (lend p n (renumbered next bk)).arena) ≡ Fine g
+    pub held-fine : checked size m d (length (lend p n (renumbered next bk)).arena) ≡ Ok g
     unfolding lend
     held-fine = ap (checked size m d) (encoded-length is_value p n is-sized bk.rows w) ∙ is-fine
 

@@ -1,5 +1,5 @@
 -- A refused call, 7 aside, leaves arena, counts, next number and its buffers as they were. Assumes what InTurn.antt does.
-use Rattle.std.specs.Prelude.{◌≡◌, ◌≢◌, ℕ, Bool, cond, List, [], ◌∷◌, ◌++◌, ltb, leb, eqb, length}
+use Rattle.std.specs.Prelude.{Result, Ok, Err, ◌≡◌, ◌≢◌, ℕ, Bool, cond, List, [], ◌∷◌, ◌++◌, ltb, leb, eqb, length}
 use Rattle.std.proofs.Math.Path.{refl, fun_ext}
 use Rattle.std.proofs.Common.{sym, ap, ◌∙◌, subst, append_assoc, eqb-true}
 use Rattle.std.proofs.Math.Bool.{true, false}
@@ -11,12 +11,11 @@ use Rattle.config.specs.Limits.{max_bytes}
 use Rattle.config.specs.Causes.{bad_shape}
 use Rattle.config.specs.Config.{refused, settings_of}
 use Rattle.config.specs.declared.Settings.{Settings}
-use Rattle.config.specs.declared.CheckedConfig.TheVariants.{Fine}
+use Rattle.std.specs.Prelude.{Ok}
 use Rattle.resp3.specs.Ends.{is_value}
 use Rattle.resp3.specs.Decode as resp
 use Rattle.call_record.specs.Check.{check_def}
-use Rattle.call_record.specs.declared.Checked.{Checked}
-use Rattle.call_record.specs.declared.Checked.TheVariants.{Fine as Valid, Wrong}
+use Rattle.format.specs.declared.Wrong.{Wrong}
 use Rattle.cursor.specs.At.{record_at}
 use Rattle.format.specs.Lists.{All}
 use Rattle.book.specs.Book as book
@@ -137,16 +136,16 @@ module _ (p : Setup) (bk : Book) where
         (λ x. rw x (λ n m. (refl, refl)))
         (λ x. rw x (λ n m. absurd (n refl))))
 
-    judged-left : (x : Checked)
+    judged-left : (x : Result (Unit {0}) Wrong)
         → Left (judged_call g t e bytes (length plan) (length send) x)
         (record_reply t bytes plan send g x (reply_to p (judged_call g t e bytes (length plan) (length send) x) bk)) (plan ∷ send ∷ [])
     unfolding judged_call record_reply plans.call_of
-    judged-left (Wrong at) = λ n m. (nothing, unfold buffers_of in refl)
-    judged-left Valid =
+    judged-left (Err w) = λ n m. (nothing, unfold buffers_of in refl)
+    judged-left (Ok u) =
         by_test (any_late g t (record_at bytes).commands) (λ l. rw l (λ n m. (nothing, unfold buffers_of in refl))) (λ l. rw l (planned-left _ l refl))
 
     planning-left : Left (plannings.book_call g t e bytes (length plan) (length send))
-        (planning_return t bytes plan send (Fine g) (reply_to p (plannings.book_call g t e bytes (length plan) (length send)) bk)) (plan ∷ send ∷ [])
+        (planning_return t bytes plan send (Ok g) (reply_to p (plannings.book_call g t e bytes (length plan) (length send)) bk)) (plan ∷ send ∷ [])
     unfolding plannings.book_call planning_return
     planning-left =
         by_test (ltb max_bytes (length bytes)) (λ l. rw l (λ n m. (nothing, unfold buffers_of in refl))) (λ l. rw l (judged-left (check_def bytes)))

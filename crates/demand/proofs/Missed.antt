@@ -1,5 +1,5 @@
 -- The places that a plan shows: its lookups that got nothing are the missing keys that it gives to resolving, with their client expiries. Assumes nothing.
-use Rattle.std.specs.Prelude.{◌≡◌, ℕ, List, [], ◌∷◌, ◌++◌, map, length, take, drop}
+use Rattle.std.specs.Prelude.{◌≡◌, ℕ, List, [], ◌∷◌, ◌++◌, map, length, take, drop, Option, None, Some}
 use Rattle.std.proofs.Math.Path.{refl}
 use Rattle.std.proofs.Common.{sym, ap, ◌∙◌}
 use Rattle.buffer.specs.Cases.{by_test}
@@ -8,7 +8,7 @@ use Rattle.config.specs.declared.Settings.{Settings}
 use Rattle.commands.specs.Names.{is_cacheable}
 use Rattle.commands.specs.MultiKey.{multi_key}
 use Rattle.commands.specs.declared.MultiKey.{MultiKey}
-use Rattle.commands.specs.declared.MultiKey.TheVariants.{None, Mget, JsonMget}
+use Rattle.commands.specs.declared.MultiKey.TheVariants.{Mget, JsonMget}
 use Rattle.call_record.specs.Record.{Argument, simple, cursor, Command}
 use Rattle.book.specs.Book.{Answer, hit, miss, stored, no_space, invalidated, number}
 use Rattle.book.specs.Calls.{Wanted, Missing, missing_until}
@@ -47,10 +47,10 @@ unfolding ask_several
 several-expires n [] path x = tt
 several-expires n (k ∷ ks) path x = refl
 
-by-expires : (k : MultiKey) (n : Bytes) (l : List Argument) (x : ℕ) → Expires (ask_by k n l x) x
+by-expires : (k : Option MultiKey) (n : Bytes) (l : List Argument) (x : ℕ) → Expires (ask_by k n l x) x
 unfolding ask_by
-by-expires Mget n l x = several-expires n (after_name l) [] x
-by-expires JsonMget n l x = several-expires n (but_last (after_name l)) (last_only (after_name l)) x
+by-expires (Some Mget) n l x = several-expires n (after_name l) [] x
+by-expires (Some JsonMget) n l x = several-expires n (but_last (after_name l)) (last_only (after_name l)) x
 by-expires None n l x = by_test (is_cacheable n) (λ t. rw t (listed-expires n l x)) (λ t. rw t tt)
 
 from-expires : (r : Reach) (l : List Argument) (x : ℕ) → Expires (ask_from r l x) x

@@ -1,19 +1,18 @@
 -- A planning on the bytes of a book is the book's call: its whole return, and what is held then. Assumes what Bridge.antt does.
-use Rattle.std.specs.Prelude.{◌≡◌, ℕ, false, ltb, length}
+use Rattle.std.specs.Prelude.{Result, Ok, Err, ◌≡◌, ℕ, false, ltb, length}
 use Rattle.std.proofs.Math.Path.{refl}
 use Rattle.std.proofs.Common.{ap, ◌∙◌}
 use mathlib.Core.List.{List, []}
 use Rattle.buffer.specs.Cases.{by_test}
 use Rattle.buffer.specs.Same.{Bytes}
 use Rattle.config.specs.Limits.{max_bytes}
-use Rattle.config.specs.declared.CheckedConfig.TheVariants.{Fine}
+use Rattle.std.specs.Prelude.{Ok}
 use Rattle.config.specs.Config.{refused, settings_of}
 use Rattle.config.specs.declared.Settings.{Settings}
 use Rattle.resp3.specs.Ends.{is_value}
 use Rattle.call_record.specs.Record.{Record}
 use Rattle.call_record.specs.Check.{check_def}
-use Rattle.call_record.specs.declared.Checked.{Checked}
-use Rattle.call_record.specs.declared.Checked.TheVariants.{Fine as Valid, Wrong}
+use Rattle.format.specs.declared.Wrong.{Wrong}
 use Rattle.cursor.specs.At.{record_at}
 use Rattle.book.specs.Book.{Setup, Book, Answer, Keyed, invalidate, answers, after_all}
 use Rattle.book.specs.Calls.{Call, lookups, ons, after_call, reply_to, call-defs}
@@ -65,7 +64,7 @@ module _ (g : Settings) (n t e : ℕ) (bytes d f : Bytes) (bk : Book) (long : le
   -- a record
   recorded-step : shown
       (pipelined t e bytes d f h g bk.rows (record_at bytes) (plan_on (setup_now g) (renumbered 0 bk) g t e (record_at bytes) (length d) (length f)))
-      ≡ from (record_reply t bytes d f g Valid) (call_of g t e (record_at bytes) (length d) (length f))
+      ≡ from (record_reply t bytes d f g (Ok tt)) (call_of g t e (record_at bytes) (length d) (length f))
   unfolding plan_on plan_answer pipelined cause_of call_of record_reply plan_reply call-defs lend after_all
   recorded-step =
       let r : Record = record_at bytes in
@@ -79,14 +78,14 @@ module _ (g : Settings) (n t e : ℕ) (bytes d f : Bytes) (bk : Book) (long : le
       (λ x. rw (x, long, l, said-free (setup_now g) qs 0 bk, x, keys-free (setup_now g) qs 0 bk))))
 
   -- cause 2, then cause 3
-  judged-step : (x : Checked) → shown (judged t e bytes d f h g bk.rows x)
+  judged-step : (x : Result (Unit {0}) Wrong) → shown (judged t e bytes d f h g bk.rows x)
       ≡ from (record_reply t bytes d f g x) (judged_call g t e bytes (length d) (length f) x)
   unfolding judged judged_call
-  judged-step Valid = unfold lend in recorded-step
-  judged-step (Wrong o) = unfold lend cause_of record_reply call-defs after_all in refl
+  judged-step (Ok u) = unfold lend in recorded-step
+  judged-step (Err w) = unfold lend cause_of record_reply call-defs after_all in refl
 
   admitted-step : shown (admitted_to t e bytes d f h g bk.rows)
-      ≡ from (planning_return t bytes d f (Fine g)) (plannings.book_call g t e bytes (length d) (length f))
+      ≡ from (planning_return t bytes d f (Ok g)) (plannings.book_call g t e bytes (length d) (length f))
   unfolding admitted_to plannings.book_call planning_return
   admitted-step = by_test (ltb max_bytes (length bytes)) (λ l. rw l (unfold lend cause_of call-defs after_all in refl)) (λ l. rw l (judged-step (check_def bytes)))
 

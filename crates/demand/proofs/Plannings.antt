@@ -2,7 +2,7 @@
 -- outcomes. Assumes for the last that the rows are well-formed, as those of every book that calls leave are.
 use Rattle.std.proofs.Math.Path.{◌≡◌, refl, ap}
 use Rattle.std.proofs.Common.{sym, ◌∙◌, subst, zero-le, arith, ltb-false}
-use Rattle.std.specs.Prelude.{ℕ, ◌≤◌, false, cond, List, ltb, length}
+use Rattle.std.specs.Prelude.{Result, Ok, Err, ℕ, ◌≤◌, false, cond, List, ltb, length}
 use Rattle.std.proofs.Math.Option.{none, some, none-ne-some, some-injective}
 use Rattle.buffer.specs.Cases.{by_test}
 use Rattle.buffer.specs.Same.{Bytes}
@@ -10,14 +10,13 @@ use Rattle.buffer.specs.Part.{put}
 use Rattle.buffer.specs.PartLaws.{part-put, part-front}
 use Rattle.config.specs.Limits.{max_bytes}
 use Rattle.config.specs.declared.Settings.{Settings}
-use Rattle.config.specs.declared.CheckedConfig.TheVariants.{Fine}
+use Rattle.std.specs.Prelude.{Ok}
 use Rattle.resp3.specs.Ends.{is_value}
 use Rattle.call_record.specs.Record as records
 use Rattle.call_record.specs.Record.{ValidRecord, enc_record}
 use Rattle.call_record.specs.Offset.{IsRecord}
 use Rattle.call_record.specs.Check.{check_def, check-fine}
-use Rattle.call_record.specs.declared.Checked.{Checked}
-use Rattle.call_record.specs.declared.Checked.TheVariants.{Fine as Valid, Wrong}
+use Rattle.format.specs.declared.Wrong.{Wrong}
 use Rattle.cursor.specs.At.{record_at}
 use Rattle.cursor.specs.Laws.{decoded-is}
 use Rattle.book.specs.Book.{Setup, Book, Answer}
@@ -68,13 +67,13 @@ module _ (g : Settings) (t e : ℕ) (bytes d f : Bytes) (p : Setup) (bk : Book) 
   -- a return of a planning that passes
   pub record Passing (r : Return) : Type 0 where
     pub few : ltb max_bytes (length bytes) ≡ false
-    pub fine : check_def bytes ≡ Valid
+    pub fine : check_def bytes ≡ Ok tt
     pub intime : any_late g t (record_at bytes).commands ≡ false
     pub told : call ≡ calls.planning t e ws (short (ask g t) g (record_at bytes) (length d) (length f))
     pub reply : reply_to p call bk ≡ some said
     pub return : r ≡ written said
 
-  module _ (few : ltb max_bytes (length bytes) ≡ false) (fine : check_def bytes ≡ Valid) (intime : any_late g t (record_at bytes).commands ≡ false) where
+  module _ (few : ltb max_bytes (length bytes) ≡ false) (fine : check_def bytes ≡ Ok tt) (intime : any_late g t (record_at bytes).commands ≡ false) where
     -- the book is told of its lookups, and replies with their answers unless a buffer is short
     call-is : call ≡ calls.planning t e ws (short (ask g t) g (record_at bytes) (length d) (length f))
     unfolding told.book_call judged_call call_of
@@ -97,16 +96,16 @@ module _ (g : Settings) (t e : ℕ) (bytes d f : Bytes) (p : Setup) (bk : Book) 
         let h : said ≡ x = said-is x q in
         record { few = few; fine = fine; intime = intime; told = call-is; reply = q ∙ ap some (sym h); return = ap written (sym h) }
 
-  by-record : (x : Checked) (o : Reply) → ltb max_bytes (length bytes) ≡ false → check_def bytes ≡ x → reply_to p call bk ≡ o
+  by-record : (x : Result (Unit {0}) Wrong) (o : Reply) → ltb max_bytes (length bytes) ≡ false → check_def bytes ≡ x → reply_to p call bk ≡ o
       → cause_of (record_reply t bytes d f g x o) ≡ no_cause → Passing (record_reply t bytes d f g x o)
   unfolding record_reply cause_of
-  by-record Valid o l c q k =
+  by-record (Ok u) o l c q k =
       by_test (any_late g t (record_at bytes).commands) (λ late. absurd (let z : ◌≡◌ {A = ℕ} 4 0 = rw late at k in omega arith))
       (λ late. rw late (by-reply l c late o q (rw late at k)))
-  by-record (Wrong at) o l c q k = absurd (let z : ◌≡◌ {A = ℕ} 2 0 = k in omega arith)
+  by-record (Err w) o l c q k = absurd (let z : ◌≡◌ {A = ℕ} 2 0 = k in omega arith)
 
   -- one whose number is 0 passes
-  pub passing : cause_of (planning_return t bytes d f (Fine g) (reply_to p call bk)) ≡ no_cause → Passing (planning_return t bytes d f (Fine g) (reply_to p call bk))
+  pub passing : cause_of (planning_return t bytes d f (Ok g) (reply_to p call bk)) ≡ no_cause → Passing (planning_return t bytes d f (Ok g) (reply_to p call bk))
   unfolding planning_return cause_of
   passing k =
       by_test (ltb max_bytes (length bytes)) (λ l. absurd (let z : ◌≡◌ {A = ℕ} 3 0 = rw l at k in omega arith))

@@ -8,7 +8,7 @@ use Rattle.buffer.specs.Cases.{by_test}
 use Rattle.buffer.specs.Same.{Bytes}
 use Rattle.config.specs.Config.{refused, settings_of, checked}
 use Rattle.config.specs.declared.Settings.{Settings}
-use Rattle.config.specs.declared.CheckedConfig.TheVariants.{Fine}
+use Rattle.std.specs.Prelude.{Ok}
 use Rattle.resp3.specs.Ends.{is_value}
 use Rattle.call_record.specs.Record as records
 use Rattle.cursor.specs.At.{record_at}
@@ -64,7 +64,7 @@ module _ (size n m ttl t e : ℕ) (bytes d f : Bytes) (bk : Book) (w : WellForme
   r = return_for size n c (respond (setup_with size n) size n c bk)
 
   -- cause 1 lets it through, since its number is 0
-  fine-written : checked size m ttl n ≡ Fine (settings_of size m ttl n) → cause_of r ≡ no_cause → WrittenBy (settings_of size m ttl n) t bytes r
+  fine-written : checked size m ttl n ≡ Ok (settings_of size m ttl n) → cause_of r ≡ no_cause → WrittenBy (settings_of size m ttl n) t bytes r
   unfolding return_for book_call
   fine-written q k =
       rw q

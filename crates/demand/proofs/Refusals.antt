@@ -1,5 +1,5 @@
 -- In the sequence cause 1 is a mode over 1 and nothing else, and no call finds the arena damaged. Assumes what InTurn.antt does.
-use Rattle.std.specs.Prelude.{◌≡◌, ◌↔◌, ◌≢◌, ℕ, ◌*◌, ◌<◌, Bool, true, false, ◌||◌, List, [], ◌∷◌, eqb, ltb, leb, length}
+use Rattle.std.specs.Prelude.{Result, Ok, Err, ◌≡◌, ◌↔◌, ◌≢◌, ℕ, ◌*◌, ◌<◌, Bool, true, false, ◌||◌, List, [], ◌∷◌, eqb, ltb, leb, length}
 use Rattle.std.proofs.Math.Path.{refl}
 use Rattle.std.proofs.Common.{sym, ap, ◌∙◌, arith, ltb-true}
 use Rattle.std.proofs.Math.Option.{Option, some}
@@ -11,12 +11,11 @@ use Rattle.config.specs.Limits.{max_bytes, max_size, max_mode, max_arena, min_sh
 use Rattle.config.specs.Causes.{bad_config, bad_arena}
 use Rattle.config.specs.Config.{shard_count, refused, settings_of}
 use Rattle.config.specs.declared.Settings.{Settings}
-use Rattle.config.specs.declared.CheckedConfig.TheVariants.{Fine}
+use Rattle.std.specs.Prelude.{Ok}
 use Rattle.resp3.specs.Ends.{is_value}
 use Rattle.resp3.specs.Decode as resp
 use Rattle.call_record.specs.Check.{check_def}
-use Rattle.call_record.specs.declared.Checked.{Checked}
-use Rattle.call_record.specs.declared.Checked.TheVariants.{Fine as Valid, Wrong}
+use Rattle.format.specs.declared.Wrong.{Wrong}
 use Rattle.cursor.specs.At.{record_at}
 use Rattle.book.specs.Book as book
 use Rattle.book.specs.Book.{Counts, Keyed}
@@ -61,12 +60,12 @@ module _ (g : Settings) (t : ℕ) (bytes plan send : Bytes) where
   plan-other option.none = is 5 refl refl
   plan-other (some said) = is 0 refl refl
 
-  record-other : (x : Checked) (r : Reply) → Other (cause_of (record_reply t bytes plan send g x r))
+  record-other : (x : Result (Unit {0}) Wrong) (r : Reply) → Other (cause_of (record_reply t bytes plan send g x r))
   unfolding cause_of record_reply
-  record-other (Wrong at) r = is 2 refl refl
-  record-other Valid r = by_test (any_late g t (record_at bytes).commands) (λ l. rw l (is 4 refl refl)) (λ l. rw l (plan-other r))
+  record-other (Err w) r = is 2 refl refl
+  record-other (Ok u) r = by_test (any_late g t (record_at bytes).commands) (λ l. rw l (is 4 refl refl)) (λ l. rw l (plan-other r))
 
-  planning-other : (r : Reply) → Other (cause_of (planning_return t bytes plan send (Fine g) r))
+  planning-other : (r : Reply) → Other (cause_of (planning_return t bytes plan send (Ok g) r))
   unfolding cause_of planning_return
   planning-other r = by_test (ltb max_bytes (length bytes)) (λ l. rw l (is 3 refl refl)) (λ l. rw l (record-other (check_def bytes) r))
 

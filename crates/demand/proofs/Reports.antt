@@ -2,7 +2,7 @@
 -- that setup was not refused, and that the call's return is the book's reply's (`answers`).
 use Rattle.std.proofs.Math.Path.{◌≡◌, refl, sym, ap}
 use Rattle.std.proofs.Common.{◌∙◌, arith}
-use Rattle.std.specs.Prelude.{ℕ, Bool, leb, ltb, length}
+use Rattle.std.specs.Prelude.{Result, Ok, Err, ℕ, Bool, leb, ltb, length}
 use Rattle.std.proofs.Math.Option.{Option, none, some}
 use mathlib.Core.List.{List, [], ◌∷◌, ◌++◌}
 use Rattle.buffer.specs.Cases.{by_test}
@@ -10,13 +10,12 @@ use Rattle.buffer.specs.Same.{Bytes}
 use Rattle.config.specs.Limits.{max_bytes}
 use Rattle.config.specs.Config.{checked}
 use Rattle.config.specs.declared.Settings.{Settings}
-use Rattle.config.specs.declared.CheckedConfig.{CheckedConfig}
-use Rattle.config.specs.declared.CheckedConfig.TheVariants.{Fine, Refused as BadConfig}
+use Rattle.std.specs.Prelude.{Ok, Err, Result}
+use Rattle.config.specs.declared.Cause.{Cause}
 use Rattle.resp3.specs.Ends.{is_value}
 use Rattle.resp3.specs.Decode as resp
 use Rattle.call_record.specs.Check.{check_def}
-use Rattle.call_record.specs.declared.Checked.{Checked}
-use Rattle.call_record.specs.declared.Checked.TheVariants.{Fine as Valid, Wrong}
+use Rattle.format.specs.declared.Wrong.{Wrong}
 use Rattle.cursor.specs.At.{record_at}
 use Rattle.book.specs.Book as book
 use Rattle.book.specs.Book.{Setup, Book, Counts, Answer, Keyed, fresh}
@@ -51,19 +50,19 @@ module _ (size n : ℕ) (p : Setup) (o : Proper p) (lent : Counts) (before : Lis
   bk = after_calls p before (fresh lent)
 
   -- a planning reports none
-  planning-none : (t : ℕ) (bytes plan send : Bytes) (x : CheckedConfig) (reply : Reply) → reported_by (planning_return t bytes plan send x reply) ≡ 0
+  planning-none : (t : ℕ) (bytes plan send : Bytes) (x : Result Settings Cause) (reply : Reply) → reported_by (planning_return t bytes plan send x reply) ≡ 0
   unfolding reported_by planning_return
-  planning-none t bytes plan send BadConfig reply = refl
-  planning-none t bytes plan send (Fine g) reply =
+  planning-none t bytes plan send (Err cause) reply = refl
+  planning-none t bytes plan send (Ok g) reply =
       by_test (ltb max_bytes (length bytes)) (λ u. rw u) (λ u. rw u (by-record (check_def bytes)))
     where
       by-reply : (z : Reply) → reported_by (plan_reply t bytes plan send g z) ≡ 0
       by-reply none = unfold reported_by plan_reply in refl
       by-reply (some said) = unfold reported_by plan_reply in refl
 
-      by-record : (k : Checked) → reported_by (record_reply t bytes plan send g k reply) ≡ 0
-      by-record (Wrong at) = unfold reported_by record_reply in refl
-      by-record Valid =
+      by-record : (k : Result (Unit {0}) Wrong) → reported_by (record_reply t bytes plan send g k reply) ≡ 0
+      by-record (Err w) = unfold reported_by record_reply in refl
+      by-record (Ok u) =
           unfold record_reply in
           by_test (any_late g t (record_at bytes).commands) (λ u. rw u (unfold reported_by in refl)) (λ u. rw u (by-reply reply))
 
@@ -92,7 +91,7 @@ module _ (size n : ℕ) (p : Setup) (o : Proper p) (lent : Counts) (before : Lis
   unfolding lacking_in
   one-lacks q = refl
 
-  single-lacks : (q : Keyed) (x : CheckedConfig) → Lacks (if_fine x (λ g. singles.call_of q))
+  single-lacks : (q : Keyed) (x : Result Settings Cause) → Lacks (if_fine x (λ g. singles.call_of q))
   single-lacks q x = of-fine Lacks x (λ g. singles.call_of q) refused-lacks (λ g. of-single Lacks q refused-lacks (one-lacks q))
 
   -- a resolving reports what its stores lack
@@ -121,12 +120,12 @@ module _ (size n : ℕ) (p : Setup) (o : Proper p) (lent : Counts) (before : Lis
         by_test (is_value replies) (λ u. rw u (resolved-lacks pl (resolve (plan_read pl) g.mode t (resp.decode replies))))
         (λ u. rw u (unfold reported_by lacking_in in refl))
 
-    resolving-lacks : (plan : Bytes) (x : CheckedConfig)
+    resolving-lacks : (plan : Bytes) (x : Result Settings Cause)
         → reported_by (resolving_return t replies answer x plan (reply_to p (if_fine x (λ g. told_by g.mode (decode_plan plan) replies t e (length answer))) bk))
         ≡ lacking_in p (if_fine x (λ g. told_by g.mode (decode_plan plan) replies t e (length answer))) bk
     unfolding resolving_return
-    resolving-lacks plan BadConfig = unfold reported_by lacking_in in refl
-    resolving-lacks plan (Fine g) = plan-lacks g (decode_plan plan)
+    resolving-lacks plan (Err cause) = unfold reported_by lacking_in in refl
+    resolving-lacks plan (Ok g) = plan-lacks g (decode_plan plan)
 
   -- every call
   pub reported-for : (c : RealCall) → reported_by (return_for size n c (respond p size n c bk)) ≡ lacking_in p (book_call size n c) bk

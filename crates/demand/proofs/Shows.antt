@@ -10,8 +10,8 @@ use Rattle.buffer.specs.Cases.{by_test}
 use Rattle.buffer.specs.Same.{Bytes}
 use Rattle.config.specs.Config.{checked}
 use Rattle.config.specs.declared.Settings.{Settings}
-use Rattle.config.specs.declared.CheckedConfig.{CheckedConfig}
-use Rattle.config.specs.declared.CheckedConfig.TheVariants.{Fine, Refused as BadConfig}
+use Rattle.std.specs.Prelude.{Ok, Err, Result}
+use Rattle.config.specs.declared.Cause.{Cause}
 use Rattle.resp3.specs.Ends.{is_value}
 use Rattle.resp3.specs.Decode as resp
 use Rattle.cursor.specs.At.{record_at}
@@ -59,15 +59,15 @@ module _ (p : Setup) (bk : Book) where
       (gots-places g t e bytes d f p bk w x ∙ plan-places g t (record_at bytes).commands (said g t e bytes d f p bk)
       ∙ dry-places p bk t e (ws g t e bytes d f p bk))
 
-  planning-shows : (t e : ℕ) (bytes d f : Bytes) → WellFormed is_value p bk.rows → (x : CheckedConfig)
+  planning-shows : (t e : ℕ) (bytes d f : Bytes) → WellFormed is_value p bk.rows → (x : Result Settings Cause)
       → cause_of (planning_return t bytes d f x (reply_to p (if_fine x (λ g. told.book_call g t e bytes (length d) (length f))) bk)) ≡ no_cause
       → Shows p bk (if_fine x (λ g. told.book_call g t e bytes (length d) (length f)))
       (planning_return t bytes d f x (reply_to p (if_fine x (λ g. told.book_call g t e bytes (length d) (length f))) bk))
-  planning-shows t e bytes d f w BadConfig k = absurd (let z : ◌≡◌ {A = ℕ} 1 0 = unfold planning_return cause_of in k in omega arith)
-  planning-shows t e bytes d f w (Fine g) k = passing-shows g t e bytes d f w (passing g t e bytes d f p bk k)
+  planning-shows t e bytes d f w (Err cause) k = absurd (let z : ◌≡◌ {A = ℕ} 1 0 = unfold planning_return cause_of in k in omega arith)
+  planning-shows t e bytes d f w (Ok g) k = passing-shows g t e bytes d f w (passing g t e bytes d f p bk k)
 
   -- a single lookup
-  abbrev look_return : ℕ → CheckedConfig → Keyed → Reply → Return
+  abbrev look_return : ℕ → Result Settings Cause → Keyed → Reply → Return
   look_return at x q o =
       real.looked_up (record { cause = single_number x q o; hit = flag_of (single_value x o) }) (served_at (single_value x o) at) (bytes_of (single_value x o))
 
@@ -87,20 +87,20 @@ module _ (p : Setup) (bk : Book) where
     q = book.lookup k c t e
 
     -- a lookup that passes shows its answer, and one that cause 3 refuses does not pass
-    single-shows : (g : Settings) → cause_of (look_return at (Fine g) q (reply_to p (calls.single q) bk)) ≡ no_cause
-        → Shows p bk (calls.single q) (look_return at (Fine g) q (reply_to p (calls.single q) bk))
+    single-shows : (g : Settings) → cause_of (look_return at (Ok g) q (reply_to p (calls.single q) bk)) ≡ no_cause
+        → Shows p bk (calls.single q) (look_return at (Ok g) q (reply_to p (calls.single q) bk))
     unfolding cause_of single_number single_value singles.outcome_number singles.outcome_value outcome_of call-defs ons answers lookups_in
     single-shows g z = asked (answer_to p (on q) bk ∷ []) refl refl (answer-shown _ (answer_to p (on q) bk) z)
 
-    denied-shows : (g : Settings) → one.overlong q ≡ true → cause_of (look_return at (Fine g) q (reply_to p calls.refused bk)) ≡ no_cause → ⊥
+    denied-shows : (g : Settings) → one.overlong q ≡ true → cause_of (look_return at (Ok g) q (reply_to p calls.refused bk)) ≡ no_cause → ⊥
     unfolding cause_of single_number singles.outcome_number outcome_of call-defs
     denied-shows g u z = let y : ◌≡◌ {A = ℕ} 3 0 = rw u at z in omega arith
 
-    lookup-shows : (x : CheckedConfig) → cause_of (look_return at x q (reply_to p (if_fine x (λ g. singles.call_of q)) bk)) ≡ no_cause
+    lookup-shows : (x : Result Settings Cause) → cause_of (look_return at x q (reply_to p (if_fine x (λ g. singles.call_of q)) bk)) ≡ no_cause
         → Shows p bk (if_fine x (λ g. singles.call_of q)) (look_return at x q (reply_to p (if_fine x (λ g. singles.call_of q)) bk))
     unfolding singles.call_of one.wrong_bytes
-    lookup-shows BadConfig z = absurd (let y : ◌≡◌ {A = ℕ} 1 0 = unfold cause_of single_number in z in omega arith)
-    lookup-shows (Fine g) z =
+    lookup-shows (Err cause) z = absurd (let y : ◌≡◌ {A = ℕ} 1 0 = unfold cause_of single_number in z in omega arith)
+    lookup-shows (Ok g) z =
         by_test (one.overlong q) (λ u. absurd (denied-shows g u (rw u at z))) (λ u. rw u (single-shows g (rw u at z)))
 
 -- ---- calls without lookups
@@ -161,10 +161,10 @@ module _ (t : ℕ) (replies answer : Bytes) where
       by-resolved (answered vs ss) =
           unfold gots_of resolved_reply result_reply in by_test (leb (length (result_bytes pl.transaction vs)) (length answer)) (λ u. rw u) (λ u. rw u)
 
-  resolving-silent : (plan : Bytes) (x : CheckedConfig) (o : Reply) → gots_of (resolving_return t replies answer x plan o) ≡ []
+  resolving-silent : (plan : Bytes) (x : Result Settings Cause) (o : Reply) → gots_of (resolving_return t replies answer x plan o) ≡ []
   unfolding resolving_return
-  resolving-silent plan BadConfig o = unfold gots_of in refl
-  resolving-silent plan (Fine g) o = plan-silent g (decode_plan plan) o
+  resolving-silent plan (Err cause) o = unfold gots_of in refl
+  resolving-silent plan (Ok g) o = plan-silent g (decode_plan plan) o
 
 -- ---- every call that passes
 

@@ -1,6 +1,6 @@
 -- The clauses `hits` and `misses`: the counts are those first lent and what the returns show, wrapping. Call by call: one that passes adds what its return
 -- shows, one that a cause refuses shows nothing and leaves the counts. Assumes what InTurn.antt does.
-use Rattle.std.specs.Prelude.{◌≡◌, ◌≢◌, eqb, ltb, length}
+use Rattle.std.specs.Prelude.{Result, Ok, Err, ◌≡◌, ◌≢◌, eqb, ltb, length}
 use Rattle.std.proofs.Math.Path.{refl, ap, subst}
 use Rattle.std.proofs.Common.{sym, ◌∙◌, mod-eq_of_lt, eqb-true, ne_eqb}
 use Prim.Native.Nat.{ℕ, ◌+◌, ◌^◌, ◌<◌}
@@ -16,13 +16,12 @@ use Rattle.config.specs.Wrap.{wrap}
 use Rattle.config.specs.Causes.{bad_shape}
 use Rattle.config.specs.Config.{checked}
 use Rattle.config.specs.declared.Settings.{Settings}
-use Rattle.config.specs.declared.CheckedConfig.{CheckedConfig}
-use Rattle.config.specs.declared.CheckedConfig.TheVariants.{Fine, Refused as BadConfig}
+use Rattle.std.specs.Prelude.{Ok, Err, Result}
+use Rattle.config.specs.declared.Cause.{Cause}
 use Rattle.format.specs.Lists.{All}
 use Rattle.resp3.specs.Ends.{is_value}
 use Rattle.call_record.specs.Check.{check_def}
-use Rattle.call_record.specs.declared.Checked.{Checked}
-use Rattle.call_record.specs.declared.Checked.TheVariants.{Fine as Valid, Wrong}
+use Rattle.format.specs.declared.Wrong.{Wrong}
 use Rattle.cursor.specs.At.{record_at}
 use Rattle.book.specs.Book as book
 use Rattle.book.specs.Book.{Setup, Book, Counts, Answer, Keyed}
@@ -71,21 +70,21 @@ module _ (t : ℕ) (bytes plan send : Bytes) where
   plan-not-7 g none = λ e. omega arith
   plan-not-7 g (some said) = λ e. omega arith
 
-  record-not-7 : (g : Settings) (x : Checked) (o : Reply) → cause_of (record_reply t bytes plan send g x o) ≢ bad_shape
+  record-not-7 : (g : Settings) (x : Result (Unit {0}) Wrong) (o : Reply) → cause_of (record_reply t bytes plan send g x o) ≢ bad_shape
   unfolding cause_of record_reply
-  record-not-7 g (Wrong at) o = λ e. omega arith
-  record-not-7 g Valid o = by_test (any_late g t (record_at bytes).commands) (λ l. rw l (λ e. omega arith)) (λ l. rw l (plan-not-7 g o))
+  record-not-7 g (Err w) o = λ e. omega arith
+  record-not-7 g (Ok u) o = by_test (any_late g t (record_at bytes).commands) (λ l. rw l (λ e. omega arith)) (λ l. rw l (plan-not-7 g o))
 
-  planning-not-7 : (x : CheckedConfig) (o : Reply) → cause_of (planning_return t bytes plan send x o) ≢ bad_shape
+  planning-not-7 : (x : Result Settings Cause) (o : Reply) → cause_of (planning_return t bytes plan send x o) ≢ bad_shape
   unfolding cause_of planning_return
-  planning-not-7 BadConfig o = λ e. omega arith
-  planning-not-7 (Fine g) o = by_test (ltb max_bytes (length bytes)) (λ l. rw l (λ e. omega arith)) (λ l. rw l (record-not-7 g (check_def bytes) o))
+  planning-not-7 (Err cause) o = λ e. omega arith
+  planning-not-7 (Ok g) o = by_test (ltb max_bytes (length bytes)) (λ l. rw l (λ e. omega arith)) (λ l. rw l (record-not-7 g (check_def bytes) o))
 
 -- nor is it a push's
-push-not-7 : (x : CheckedConfig) (bytes : Bytes) → push_number x bytes ≢ bad_shape
+push-not-7 : (x : Result Settings Cause) (bytes : Bytes) → push_number x bytes ≢ bad_shape
 unfolding push_number
-push-not-7 BadConfig bytes = λ e. omega arith
-push-not-7 (Fine g) bytes = by_test (is_value bytes) (λ l. rw l (λ e. omega arith)) (λ l. rw l (λ e. omega arith))
+push-not-7 (Err cause) bytes = λ e. omega arith
+push-not-7 (Ok g) bytes = by_test (is_value bytes) (λ l. rw l (λ e. omega arith)) (λ l. rw l (λ e. omega arith))
 
 -- nor a single call's
 answer-not-7 : (a : Answer) → one.number_of a ≢ bad_shape
@@ -97,12 +96,12 @@ answer-not-7 book.no_space = λ e. omega arith
 answer-not-7 book.invalidated = λ e. omega arith
 answer-not-7 (book.number n) = λ e. omega arith
 
-single-not-7 : (x : CheckedConfig) (q : Keyed) (o : Reply) → single_number x q o ≢ bad_shape
+single-not-7 : (x : Result Settings Cause) (q : Keyed) (o : Reply) → single_number x q o ≢ bad_shape
 unfolding single_number outcome_number outcome_of
-single-not-7 BadConfig q o = λ e. omega arith
-single-not-7 (Fine g) q none = by_test (one.overlong q) (λ l. rw l (λ e. omega arith)) (λ l. rw l (λ e. omega arith))
-single-not-7 (Fine g) q (some []) = λ e. omega arith
-single-not-7 (Fine g) q (some (a ∷ said)) = answer-not-7 a
+single-not-7 (Err cause) q o = λ e. omega arith
+single-not-7 (Ok g) q none = by_test (one.overlong q) (λ l. rw l (λ e. omega arith)) (λ l. rw l (λ e. omega arith))
+single-not-7 (Ok g) q (some []) = λ e. omega arith
+single-not-7 (Ok g) q (some (a ∷ said)) = answer-not-7 a
 
 -- ---- any count that goes by what is shown
 

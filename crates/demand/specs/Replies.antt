@@ -1,6 +1,6 @@
 -- The whole return of a call, from its arguments and the book alone (`return_for`): what the clause `answers` of demand 3 comes to, computed. Its law is in
 -- OneCall.antt, and nobody has to believe it. Assumes nothing: these are definitions.
-use Rattle.std.specs.Prelude.{ℕ, cond, List, [], ◌∷◌, ltb, leb, length, replicate}
+use Rattle.std.specs.Prelude.{Result, Ok, Err, ℕ, cond, List, [], ◌∷◌, ltb, leb, length, replicate}
 use Rattle.std.proofs.Math.Option.{Option, none, some}
 use Rattle.buffer.specs.Same.{Bytes}
 use Rattle.buffer.specs.Part.{put}
@@ -8,13 +8,12 @@ use Rattle.config.specs.Limits.{max_bytes}
 use Rattle.config.specs.Causes.{bad_config, bad_record, too_long, late_expiry, short_buffer, bad_reply, bad_shape, short_answer, bad_plan}
 use Rattle.config.specs.Config.{checked}
 use Rattle.config.specs.declared.Settings.{Settings}
-use Rattle.config.specs.declared.CheckedConfig.{CheckedConfig}
-use Rattle.config.specs.declared.CheckedConfig.TheVariants.{Fine, Refused as BadConfig}
+use Rattle.std.specs.Prelude.{Ok, Err, Result}
+use Rattle.config.specs.declared.Cause.{Cause}
 use Rattle.resp3.specs.Ends.{is_value}
 use Rattle.resp3.specs.Decode as resp
 use Rattle.call_record.specs.Check.{check_def}
-use Rattle.call_record.specs.declared.Checked.{Checked}
-use Rattle.call_record.specs.declared.Checked.TheVariants.{Fine as Valid, Wrong}
+use Rattle.format.specs.declared.Wrong.{Wrong}
 use Rattle.cursor.specs.At.{record_at}
 use Rattle.book.specs.Book as book
 use Rattle.book.specs.Book.{Setup, Row, Book, Answer, Keyed}
@@ -63,13 +62,13 @@ module _ (clock : ℕ) (bytes plan send : Bytes) where
   plan_reply g none = not_planned short_buffer 0
   plan_reply g (some said) = written (planned_from (ask g clock) g (record_at bytes) said)
 
-  unfoldable pub record_reply : Settings → Checked → Reply → Return
-  record_reply g (Wrong at) reply = not_planned bad_record at
-  record_reply g Valid reply = cond (any_late g clock (record_at bytes).commands) (not_planned late_expiry 0) (plan_reply g reply)
+  unfoldable pub record_reply : Settings → Result (Unit {0}) Wrong → Reply → Return
+  record_reply g (Err w) reply = not_planned bad_record w.at
+  record_reply g (Ok u) reply = cond (any_late g clock (record_at bytes).commands) (not_planned late_expiry 0) (plan_reply g reply)
 
-  unfoldable pub planning_return : CheckedConfig → Reply → Return
-  planning_return BadConfig reply = not_planned bad_config 0
-  planning_return (Fine g) reply = cond (ltb max_bytes (length bytes)) (not_planned too_long 0) (record_reply g (check_def bytes) reply)
+  unfoldable pub planning_return : Result Settings Cause → Reply → Return
+  planning_return (Err cause) reply = not_planned bad_config 0
+  planning_return (Ok g) reply = cond (ltb max_bytes (length bytes)) (not_planned too_long 0) (record_reply g (check_def bytes) reply)
 
 -- resolving: causes 1, 10, 6, 7, 8; 7 zeroes the answer buffer
 module _ (clock : ℕ) (replies answer : Bytes) where
@@ -90,23 +89,23 @@ module _ (clock : ℕ) (replies answer : Bytes) where
   plan_lent g (some p) reply =
       cond (is_value replies) (resolved_reply p (resolvings.resolve (plan_read p) g.mode clock (resp.decode replies)) reply) (not_resolved bad_reply answer)
 
-  unfoldable pub resolving_return : CheckedConfig → Bytes → Reply → Return
-  resolving_return BadConfig plan reply = not_resolved bad_config answer
-  resolving_return (Fine g) plan reply = plan_lent g (decode_plan plan) reply
+  unfoldable pub resolving_return : Result Settings Cause → Bytes → Reply → Return
+  resolving_return (Err cause) plan reply = not_resolved bad_config answer
+  resolving_return (Ok g) plan reply = plan_lent g (decode_plan plan) reply
 
 -- a single call's number and value: causes 1, 3, 6, 11
-unfoldable pub single_number : CheckedConfig → Keyed → Reply → ℕ
-single_number BadConfig q reply = bad_config
-single_number (Fine g) q reply = outcome_number q (outcome_of reply)
+unfoldable pub single_number : Result Settings Cause → Keyed → Reply → ℕ
+single_number (Err cause) q reply = bad_config
+single_number (Ok g) q reply = outcome_number q (outcome_of reply)
 
-unfoldable pub single_value : CheckedConfig → Reply → Option Bytes
-single_value BadConfig reply = none
-single_value (Fine g) reply = outcome_value (outcome_of reply)
+unfoldable pub single_value : Result Settings Cause → Reply → Option Bytes
+single_value (Err cause) reply = none
+single_value (Ok g) reply = outcome_value (outcome_of reply)
 
 -- a push: causes 1, 6
-unfoldable pub push_number : CheckedConfig → Bytes → ℕ
-push_number BadConfig bytes = bad_config
-push_number (Fine g) bytes = cond (is_value bytes) no_cause bad_reply
+unfoldable pub push_number : Result Settings Cause → Bytes → ℕ
+push_number (Err cause) bytes = bad_config
+push_number (Ok g) bytes = cond (is_value bytes) no_cause bad_reply
 
 -- a new epoch: the number
 unfoldable pub number_in : Reply → ℕ

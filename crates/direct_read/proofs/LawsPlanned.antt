@@ -13,7 +13,7 @@ use Rattle.buffer.specs.PartLaws.{part-put, part-front}
 use Rattle.config.specs.Limits.{max_bytes}
 use Rattle.config.specs.Config.{mode_of, refused, settings_of, checked}
 use Rattle.config.specs.declared.Settings.{Settings}
-use Rattle.config.specs.declared.CheckedConfig.TheVariants.{Fine}
+use Rattle.std.specs.Prelude.{Ok}
 use Rattle.resp3.specs.Ends.{is_value}
 use Rattle.call_record.specs.Record.{Record, enc_record, ValidRecord, transaction}
 use Rattle.call_record.specs.Check.{check_def, check-fine}
@@ -36,13 +36,13 @@ use Rattle.call_entry.specs.Laws.{each-entry}
 use Rattle.cache_manager.specs.Pipeline.{refused_as, wrote, Left, refusal, pipelined, judged, admitted_to, plan_call}
 
 -- the settings of a call that cause 1 lets through have its mode
-pub mode-kept : (size mode ttl n : ℕ) (g : Settings) → checked size mode ttl n ≡ Fine g → g.mode ≡ mode_of mode
+pub mode-kept : (size mode ttl n : ℕ) (g : Settings) → checked size mode ttl n ≡ Ok g → g.mode ≡ mode_of mode
 unfolding checked settings_of
 mode-kept size mode ttl n g q =
     by_test (refused size mode n)
     (λ b. absurd (let y = rw b at q in let z : ◌≡◌ {A = ℕ} 0 1 = cc in omega arith))
     (λ b.
-    let y : Fine (settings_of size mode ttl n) ≡ Fine g = rw b at q in
+    let y : Ok (settings_of size mode ttl n) ≡ Ok g = rw b at q in
     let z : settings_of size mode ttl n ≡ g = cc in
     ap (λ (u : Settings). u.mode) (sym z))
 

@@ -2,7 +2,7 @@
 -- Assumes nothing.
 use Rattle.std.proofs.Math.Path.{◌≡◌, refl, ap}
 use Rattle.std.proofs.Common.{sym, ◌∙◌, arith, length-append, drop_of_length-le, drop-cons, drop-drop}
-use Rattle.std.specs.Prelude.{Bool, true, false, List, ◌∷◌}
+use Rattle.std.specs.Prelude.{Bool, true, false, List, ◌∷◌, Result, Ok, Err}
 use Prim.Native.Nat.{ℕ, suc, ◌+◌, ◌-◌, ◌≤◌, ◌<◌}
 use Rattle.std.proofs.Math.Numerals.{add-one}
 use Rattle.std.proofs.Math.ListN.{length, drop, get_or, length-drop}
@@ -11,17 +11,29 @@ use Rattle.format.specs.Format.{Read, ok, bad, short, Format, read_byte, byte_f}
 use Rattle.format.specs.Both.{both_f, then_read, after}
 use Rattle.format.specs.Map.{From, map_f, map_read}
 use Rattle.format.specs.Runs.{many_f, rep}
-use Rattle.format.specs.declared.End.{End}
-use Rattle.format.specs.declared.End.TheVariants.{At, Wrong}
+use Rattle.format.specs.declared.Wrong.{Wrong}
+
+-- the bytes are wrong at o
+abbrev pub wrong : {A : Type 0} → ℕ → Result A Wrong
+wrong o = Err (record { at = o })
+
+-- which one
+offset_of : {A : Type 0} → Result A Wrong → ℕ
+offset_of (Ok a) = 0
+offset_of (Err w) = w.at
+
+pub same_offset : {A : Type 0} (o p : ℕ) → wrong {A = A} o ≡ wrong p → o ≡ p
+unfolding offset_of
+same_offset o p e = ap offset_of e
 
 -- what a reading of s from `at` on found, as a place
-unfoldable pub end_of : {A : Type 0} → List ℕ → ℕ → Read A → End
-end_of s at (ok a u) = At (length s - length u)
-end_of s at (bad o) = Wrong (at + o)
-end_of s at short = Wrong (length s)
+unfoldable pub end_of : {A : Type 0} → List ℕ → ℕ → Read A → Result ℕ Wrong
+end_of s at (ok a u) = Ok (length s - length u)
+end_of s at (bad o) = wrong (at + o)
+end_of s at short = wrong (length s)
 
 -- where the thing at `at` ends
-unfoldable pub end_at : {A : Type 0} → Format A → List ℕ → ℕ → End
+unfoldable pub end_at : {A : Type 0} → Format A → List ℕ → ℕ → Result ℕ Wrong
 end_at f s at = end_of s at (f.read (drop at s))
 
 -- a is read at `at`, and ends at e
@@ -46,19 +58,19 @@ module _ {A : Type 0} (f : Format A) (s : List ℕ) (at : ℕ) where
       record { is = k ∙ ap (ok a) (sym d ∙ ap (λ (m : ℕ). drop m s) (sym e)); ends = e; inside = omega arith }
 
   -- where something ends, it was read
-  pub some_at : at ≤ length s → (e : ℕ) → end_at f s at ≡ At e → Some f s at e
+  pub some_at : at ≤ length s → (e : ℕ) → end_at f s at ≡ Ok e → Some f s at e
   unfolding end_at end_of
   some_at h e q = go (f.read (drop at s)) refl q
     where
-      go : (r : Read A) → f.read (drop at s) ≡ r → end_of s at r ≡ At e → Some f s at e
+      go : (r : Read A) → f.read (drop at s) ≡ r → end_of s at r ≡ Ok e → Some f s at e
       go (ok a u) k q = let z : length s - length u ≡ e = cc in record { value = a; got = rw z at (got_of h a u k) }
       go (bad o) k q = let z : ◌≡◌ {A = ℕ} 0 1 = cc in absurd (omega arith)
       go short k q = let z : ◌≡◌ {A = ℕ} 0 1 = cc in absurd (omega arith)
 
   -- where something was read, it ends
-  pub at_some : (a : A) (e : ℕ) → Got f s at a e → end_at f s at ≡ At e
+  pub at_some : (a : A) (e : ℕ) → Got f s at a e → end_at f s at ≡ Ok e
   unfolding end_at end_of
-  at_some a e g = let l = length-drop e s in let h = g.inside in rw g.is (ap At (omega arith))
+  at_some a e g = let l = length-drop e s in let h = g.inside in rw g.is (ap Ok (omega arith))
 
   module _ {B : Type 0} (g : A → Format B) where
     -- on from the first to the second
@@ -68,14 +80,14 @@ module _ {A : Type 0} (f : Format A) (s : List ℕ) (at : ℕ) where
       where
         go : (r : Read B) → end_of s at (after f.enc a r) ≡ end_of s e r
         go (ok b v) = refl
-        go (bad o) = let z = w.ends in ap Wrong (omega arith)
+        go (bad o) = let z = w.ends in ap wrong (omega arith)
         go short = refl
 
-    pub both-wrong : (o : ℕ) → end_at f s at ≡ Wrong o → end_at (both_f f g) s at ≡ Wrong o
+    pub both-wrong : (o : ℕ) → end_at f s at ≡ wrong o → end_at (both_f f g) s at ≡ wrong o
     unfolding end_at end_of
     both-wrong o q = go (f.read (drop at s)) refl q
       where
-        go : (r : Read A) → f.read (drop at s) ≡ r → end_of s at r ≡ Wrong o → end_of s at (then_read f.enc r (λ a u. (g a).read u)) ≡ Wrong o
+        go : (r : Read A) → f.read (drop at s) ≡ r → end_of s at r ≡ wrong o → end_of s at (then_read f.enc r (λ a u. (g a).read u)) ≡ wrong o
         go (ok a u) k q = let z : ◌≡◌ {A = ℕ} 0 1 = cc in absurd (omega arith)
         go (bad m) k q = q
         go short k q = q
@@ -106,12 +118,12 @@ module _ (p : ℕ → Bool) (w : ℕ) (h : p w ≡ true) (s : List ℕ) (at : �
       }
 
   -- a byte that does not pass
-  pub byte-bad : at < length s → p (get_or s at 0) ≡ false → end_at (byte_f p w h) s at ≡ Wrong at
+  pub byte-bad : at < length s → p (get_or s at 0) ≡ false → end_at (byte_f p w h) s at ≡ wrong at
   unfolding read_byte end_at end_of
-  byte-bad l t = let e : drop at s ≡ get_or s at 0 ∷ drop (at + 1) s = rw add-one (drop-cons s at 0 l) in rw (e, t) (ap Wrong (omega arith))
+  byte-bad l t = let e : drop at s ≡ get_or s at 0 ∷ drop (at + 1) s = rw add-one (drop-cons s at 0 l) in rw (e, t) (ap wrong (omega arith))
 
   -- no byte
-  pub byte-out : length s ≤ at → end_at (byte_f p w h) s at ≡ Wrong (length s)
+  pub byte-out : length s ≤ at → end_at (byte_f p w h) s at ≡ wrong (length s)
   unfolding read_byte end_at end_of
   byte-out l = rw (drop_of_length-le s {i = at} l)
 
@@ -119,7 +131,7 @@ module _ (p : ℕ → Bool) (w : ℕ) (h : p w ≡ true) (s : List ℕ) (at : �
 
 module _ {A : Type 0} (f : Format A) (s : List ℕ) where
   -- where n of them from at on end
-  unfoldable pub many_end : ℕ → ℕ → End
+  unfoldable pub many_end : ℕ → ℕ → Result ℕ Wrong
   many_end n at = end_at (rep f n).form s at
 
   -- the same for the format of n
@@ -128,12 +140,12 @@ module _ {A : Type 0} (f : Format A) (s : List ℕ) where
   many_is n at = map-end (rep f n).form s at _ _ _ _ _ _
 
   -- none is left
-  pub many-none : (at : ℕ) → at ≤ length s → many_end 0 at ≡ At at
+  pub many-none : (at : ℕ) → at ≤ length s → many_end 0 at ≡ Ok at
   unfolding many_end rep end_at end_of
-  many-none at h = ap At (omega (arith, length-drop at s))
+  many-none at h = ap Ok (omega (arith, length-drop at s))
 
   -- one, and the others behind it
-  pub many-go : (n m at e : ℕ) → m ≡ n + 1 → at ≤ length s → end_at f s at ≡ At e → many_end m at ≡ many_end n e
+  pub many-go : (n m at e : ℕ) → m ≡ n + 1 → at ≤ length s → end_at f s at ≡ Ok e → many_end m at ≡ many_end n e
   unfolding many_end rep
   many-go n m at e q h k =
       let w = some_at f s at h e k in
@@ -141,7 +153,7 @@ module _ {A : Type 0} (f : Format A) (s : List ℕ) where
       rw z (map-end (both_f f (λ a. (rep f n).form)) s at _ _ _ _ _ _ ∙ both_go f s at (λ a. (rep f n).form) w.value e w.got)
 
   -- the first is wrong
-  pub many-wrong : (n m at o : ℕ) → m ≡ n + 1 → end_at f s at ≡ Wrong o → many_end m at ≡ Wrong o
+  pub many-wrong : (n m at o : ℕ) → m ≡ n + 1 → end_at f s at ≡ wrong o → many_end m at ≡ wrong o
   unfolding many_end rep
   many-wrong n m at o q k =
       let z : m ≡ suc n = q ∙ add-one n in

@@ -1,5 +1,5 @@
 -- Formats that any k bytes fit, so that code may skip them. Assumes nothing.
-use Rattle.std.specs.Prelude.{◌≡◌, refl, Bool, true, false, List, [], ℕ, zero, suc, ◌+◌, ◌^◌, ◌≤◌, ◌<◌, leb, length, drop, get_or}
+use Rattle.std.specs.Prelude.{◌≡◌, refl, Bool, true, cond, Result, Ok, Err, List, [], ℕ, zero, suc, ◌+◌, ◌^◌, ◌≤◌, ◌<◌, leb, length, drop, get_or}
 use Rattle.std.proofs.Common.{sym, ap, ◌∙◌, arith, length-append, lt-ltb, le-leb, leb-true, leb-false}
 use Rattle.std.proofs.Math.Nat.{pow-succ', one-le-pow}
 use Rattle.std.proofs.lemmas.Bool.{lt-leb}
@@ -11,33 +11,43 @@ use Rattle.format.specs.Map.{From, map_f}
 use Rattle.format.specs.Runs.{any_f, bytes_f, many_f, rep}
 use Rattle.format.specs.Lists.{is_byte}
 use Rattle.format.specs.Numbers.{digit_b, digit-yes, digit-is, digit-zero, digit_f, Digits, rest_of, upto, number_f}
-use Rattle.format.specs.Ends.{end_at, Got, Some, at_some, both_go, both-wrong, map-end, byte-got, byte-out}
-use Rattle.format.specs.declared.End.{End}
-use Rattle.format.specs.declared.End.TheVariants.{At, Wrong}
-
--- by a test
-abbrev pub end_if : Bool → End → End → End
-end_if true a b = a
-end_if false a b = b
+use Rattle.format.specs.Ends.{wrong, same_offset, end_at, Got, Some, at_some, both_go, both-wrong, map-end, byte-got, byte-out}
+use Rattle.format.specs.declared.Wrong.{Wrong}
 
 -- any n bytes from `at` on, of l
-unfoldable pub skip_end : ℕ → ℕ → ℕ → End
-skip_end l at n = end_if (leb (at + n) l) (At (at + n)) (Wrong l)
+unfoldable pub skip_end : ℕ → ℕ → ℕ → Result ℕ Wrong
+skip_end l at n = cond (leb (at + n) l) (Ok (at + n)) (wrong l)
 
 -- they are there
-pub skip-in : (l at n : ℕ) → at + n ≤ l → skip_end l at n ≡ At (at + n)
+pub skip-in : (l at n : ℕ) → at + n ≤ l → skip_end l at n ≡ Ok (at + n)
 unfolding skip_end
 skip-in l at n h = rw (le-leb (at + n) l h)
 
 -- they are not
-pub skip-out : (l at n : ℕ) → l < at + n → skip_end l at n ≡ Wrong l
+pub skip-out : (l at n : ℕ) → l < at + n → skip_end l at n ≡ wrong l
 unfolding skip_end
 skip-out l at n h = rw (lt-leb (at + n) l h)
+
+-- what code knows behind them
+pub skip_is : (l at n e : ℕ) → skip_end l at n ≡ Ok e → (e ≡ at + n) × (e ≤ l)
+unfolding skip_end
+skip_is l at n e q =
+    by_test (leb (at + n) l)
+    (λ t. let k : Ok (at + n) ≡ Ok e = rw t at q in let z : at + n ≡ e = cc in let i = leb-true (at + n) l t in (sym z, omega arith))
+    (λ t. let k : wrong l ≡ Ok e = rw t at q in absurd (let z : ◌≡◌ {A = ℕ} 0 1 = cc in omega arith))
+
+-- and where they lack
+pub skip-lack : (l at n : ℕ) (w : Wrong) → skip_end l at n ≡ Err w → (l < at + n) × (w.at ≡ l)
+unfolding skip_end
+skip-lack l at n w q =
+    by_test (leb (at + n) l)
+    (λ t. let k : Ok (at + n) ≡ Err w = rw t at q in absurd (let z : ◌≡◌ {A = ℕ} 0 1 = cc in omega arith))
+    (λ t. let k : wrong l ≡ wrong w.at = rw t at q in (leb-false (at + n) l t, sym (same_offset l w.at k)))
 
 -- any k bytes are an f
 pub record Skips {A : Type 0} (f : Format A) (k : ℕ) : Type 0 where
   pub whole : (s : List ℕ) → Octets s → (at e : ℕ) → e ≡ at + k → e ≤ length s → Some f s at e
-  pub lack : (s : List ℕ) → Octets s → (at : ℕ) → at ≤ length s → length s < at + k → end_at f s at ≡ Wrong (length s)
+  pub lack : (s : List ℕ) → Octets s → (at : ℕ) → at ≤ length s → length s < at + k → end_at f s at ≡ wrong (length s)
 
 -- code may skip them
 pub skips-end : {A : Type 0} (f : Format A) (k : ℕ) → Skips f k → (s : List ℕ) → Octets s → (at : ℕ) → at ≤ length s → end_at f s at ≡ skip_end (length s) at k

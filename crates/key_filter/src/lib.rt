@@ -5,7 +5,7 @@
 // What a filter says of an arena is specs/Filter.antt. `fill` makes one true by one walk over all items; the other functions keep it true.
 #![tactic(auto)]
 
-ghost use Rattle.std.specs.Prelude.{◌≡◌, cond, true, ℕ, ◌<◌};
+ghost use Rattle.std.specs.Prelude.{◌≡◌, cond, true, is_ok, ℕ, ◌<◌};
 ghost use Rattle.resp3.specs.Ends.{is_value};
 ghost use Rattle.book.specs.Book.{Item, Row, stored, no_space, lookup, store, on};
 ghost use Rattle.arena.specs.Place.{arena_place};
@@ -19,6 +19,7 @@ ghost use Rattle.key_filter.specs.Filter.{bit_of, may_hold, set_bit, Grows, Mark
 use command_key::CommandKey;
 use config::{Now, Settings};
 use shard_lookup::Looked;
+use shard_store::NoSpace;
 
 // The number of the key's bit: of what its mark is made of, its upper and its lower bits together, since keys that differ in a few digits are spread by
 // neither of them alone.
@@ -70,6 +71,7 @@ fn note_shard(s: &[u8], seen: &mut [u64])
 {
     let end = 16 + buffer::read_u32(s, 4) as usize;
     let mut at: usize = 16;
+    // Kept: no plainer as an iterator, for what stands in `shard::find`.
     while at < end {
         note_item(s, at, seen);
         at = at + shard::item_len(s, at);
@@ -81,12 +83,10 @@ pub fn fill(arena: &[u8], g: Settings, seen: &mut [u64])
     requires { Arena g arena.now }
     ensures { Filters g arena.now seen.new }
 {
-    let mut i: usize = 0;
-    while i < g.shards {
+    for i in 0..g.shards {
         let from = i * g.bytes;
         let to = from + g.bytes;
         note_shard(&arena[from..to], seen);
-        i += 1;
     }
 }
 
@@ -146,11 +146,11 @@ pub fn insert(
     expiry: u64,
     epoch: u64,
     seen: &mut [u64],
-) -> bool
+) -> Result<(), NoSpace>
     requires { Arena g arena.old × Storable key.now command.now value.now × (is_value value.now ≡ true) × Filters g arena.old seen.old }
     ensures { ((rows : ℕ → Row) → Lent g arena.old rows
         → Lent g arena.new (rows_after (setup_now g) (on (store key.now command.now value.now expiry epoch)) rows)
-        × (cond result stored no_space ≡ (effect_in (setup_now g) (store key.now command.now value.now expiry epoch) rows).answer))
+        × (cond (is_ok result) stored no_space ≡ (effect_in (setup_now g) (store key.now command.now value.now expiry epoch) rows).answer))
         × Filters g arena.new seen.new }
 {
     if may_hold(seen, key) {

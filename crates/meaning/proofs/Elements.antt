@@ -1,6 +1,6 @@
 -- What is asked of a value (resp3_element/specs/Meaning.antt), by meaning: each question has an answer for one kind alone, or for two. For `Readings` of
 -- Meaning.antt. Assumes nothing.
-use Rattle.std.specs.Prelude.{◌≡◌, refl, ◌↔◌, true, false, [], ◌∷◌, ℕ, ℤ}
+use Rattle.std.specs.Prelude.{◌≡◌, refl, ◌↔◌, true, false, [], ◌∷◌, ℕ, ℤ, Some, None}
 use Rattle.std.proofs.Common.{sym, ap, ◌∙◌, arith}
 use Rattle.std.proofs.lemmas.Bool.{false≢true}
 use Rattle.std.proofs.Math.Option as option
@@ -12,7 +12,6 @@ use Rattle.buffer.specs.Ascii.{ascii}
 use Rattle.resp3.specs.declared.Kind.TheVariants.{BlobString}
 use Rattle.resp3.specs.Value.{Spelling, Value, Values, blob_string, simple_string, simple_error, number, null_as, double, boolean, blob_error, verbatim_string}
 use Rattle.resp3.specs.Value.{big_number, array, map, set, attribute, push, none, more}
-use Rattle.resp3_element.specs.declared.Integer.TheVariants.{Is, No}
 use Rattle.resp3_element.specs.Meaning.{of_kind, is_error, is_null, integer_of, blob_of, array_of, push_of}
 use Rattle.book.specs.Calls as calls
 use Rattle.resolving.specs.Convert.{then_only_list, replies_of}
@@ -20,7 +19,7 @@ use Rattle.resolving.specs.Pushes.{keys_of, invalidating, is_invalidate, from_pu
 use Rattle.meaning.specs.Meaning.{invalidation}
 
 -- no integer is none
-no-integer : {z : ℤ} {A : Type 0} → No ≡ Is z → A
+no-integer : {z : ℤ} {A : Type 0} → None ≡ Some z → A
 no-integer e = absurd (let n : ◌≡◌ {A = ℕ} 0 1 = cc in omega arith)
 
 -- elements of `*`
@@ -63,7 +62,7 @@ push-only (attribute ps u) vs e = absurd (none-ne-some vs e)
 push-only (push us) vs e = let z : us ≡ vs = cc in ap push z
 
 -- the integer of `:`
-integer-only : (v : Value) (z : ℤ) → integer_of v ≡ Is z → v ≡ number z
+integer-only : (v : Value) (z : ℤ) → integer_of v ≡ Some z → v ≡ number z
 integer-only (blob_string xs) i e = no-integer e
 integer-only (simple_string xs) i e = no-integer e
 integer-only (simple_error xs) i e = no-integer e
@@ -80,7 +79,7 @@ integer-only (set us) i e = no-integer e
 integer-only (attribute ps u) i e = no-integer e
 integer-only (push us) i e = no-integer e
 
-pub integer-means : (v : Value) (z : ℤ) → (integer_of v ≡ Is z) ↔ (v ≡ number z)
+pub integer-means : (v : Value) (z : ℤ) → (integer_of v ≡ Some z) ↔ (v ≡ number z)
 integer-means v z = (integer-only v z, λ e. ap integer_of e)
 
 -- a null, in some spelling

@@ -1,6 +1,6 @@
 -- The cases of Meaning.antt exclude each other and settle the answer: two answers to the same arguments that are both a case there are one answer. So an export
 -- answers x exactly if x is a case (`plan-exactly` and the others). Assumes nothing.
-use Rattle.std.specs.Prelude.{◌≡◌, refl, ◌↔◌, Bool, true, false, ℕ, length}
+use Rattle.std.specs.Prelude.{◌≡◌, refl, ◌↔◌, Bool, true, false, ℕ, length, Result, Option as Maybe, Err}
 use Rattle.std.proofs.Common.{sym, ap, ap₂, subst, ◌∙◌, arith}
 use Rattle.std.proofs.Math.Option.{some-injective}
 use Rattle.buffer.specs.Same.{Bytes}
@@ -10,8 +10,8 @@ use Rattle.resp3.specs.Value.{Value, Means}
 use Rattle.resp3.proofs.Law as values
 use Rattle.resp3_prefix.specs.Begun.{first_value}
 use Rattle.resp3_prefix.specs.Law.{complete-law, least-law, more-law, never-law}
-use Rattle.resp3_prefix.specs.declared.Begun.{Begun}
-use Rattle.resp3_prefix.specs.declared.Begun.TheVariants.{Lacks}
+use Rattle.resp3_prefix.specs.declared.NotWhole.{NotWhole}
+use Rattle.resp3_prefix.specs.declared.NotWhole.TheVariants.{Lacks}
 use Rattle.call_record.specs.Record.{Record}
 use Rattle.call_record.specs.Check.{record-one, wrong-once, record-right}
 use Rattle.book.specs.Book.{Row, Counts, Keyed}
@@ -29,7 +29,7 @@ use Rattle.cache_manager.specs.Pipeline as plannings
 use Rattle.cache_manager.specs.Pipeline.{Left, refusal, recorded}
 use Rattle.caching_cmd.specs.Call as resolvings
 use Rattle.caching_cmd.specs.Call.{ResolveReturn, resolved_on}
-use Rattle.served.specs.declared.ServedAnswer.{ServedAnswer}
+use Rattle.config.specs.declared.Cause.{Cause}
 use Rattle.served.specs.Served.{served_answers, served_from, buffer_from, served_call, served_buffer}
 use Rattle.caching.specs.Planned.{plan_by}
 use Rattle.caching.specs.Resolved.{resolve_by}
@@ -186,33 +186,33 @@ module _ (size mode ttl : ℕ) (s : Bytes) (lent : Counts) (next : ℕ) where
 
 -- ---- a plan answered alone, and the end of the first value
 
-serves-one : (plan buffer : Bytes) {x y : ServedAnswer × Bytes} → Serves plan buffer x → Serves plan buffer y → x ≡ y
+serves-one : (plan buffer : Bytes) {x y : Result (Maybe ℕ) Cause × Bytes} → Serves plan buffer x → Serves plan buffer y → x ≡ y
 serves-one plan buffer (no_plan_served n) (no_plan_served m) = refl
 serves-one plan buffer (no_plan_served n) (of_plan_served q v d) = absurd (n (record { plan = q; good = v; is = d }))
 serves-one plan buffer (of_plan_served p w e) (no_plan_served n) = absurd (n (record { plan = p; good = w; is = e }))
 serves-one plan buffer (of_plan_served p w e) (of_plan_served q v d) =
-    ap {B = ServedAnswer × Bytes}
+    ap {B = Result (Maybe ℕ) Cause × Bytes}
     (λ (z : Plan). (
       served_from z.transaction (served_answers (plan_read z).commands) (length buffer),
       buffer_from z.transaction (served_answers (plan_read z).commands) buffer,
     ))
     (plan-one plan p q w e v d)
 
-pub served-exactly : (plan buffer : Bytes) (x : ServedAnswer × Bytes)
-    → (◌≡◌ {A = ServedAnswer × Bytes} (served_call plan (length buffer), served_buffer plan buffer) x) ↔ Serves plan buffer x
+pub served-exactly : (plan buffer : Bytes) (x : Result (Maybe ℕ) Cause × Bytes)
+    → (◌≡◌ {A = Result (Maybe ℕ) Cause × Bytes} (served_call plan (length buffer), served_buffer plan buffer) x) ↔ Serves plan buffer x
 served-exactly plan buffer x =
     let w = served-means plan buffer in
     (λ e. subst (Serves plan buffer) e w, λ v. serves-one plan buffer w v)
 
-ends_so : (s : Bytes) {x : Begun} → EndsSo s x → first_value s ≡ x
+ends_so : (s : Bytes) {x : Result ℕ NotWhole} → EndsSo s x → first_value s ≡ x
 ends_so s (is_complete n c) = (complete-law s n).1 c
 ends_so s (lacks m k b l) =
     let w = (more-law s).1 ((k, b), m) in
     let u = least-law s w.0 w.1 in
     let i = l w.0 u.0 in
     let j = u.1 k b in
-    w.1 ∙ ap Lacks (omega arith)
+    w.1 ∙ ap (λ (k : ℕ). Err (Lacks k)) (omega arith)
 ends_so s (never m n) = (never-law s).1 (m, n)
 
-pub value-end-exactly : (received : Bytes) (x : Begun) → (first_value received ≡ x) ↔ EndsSo received x
+pub value-end-exactly : (received : Bytes) (x : Result ℕ NotWhole) → (first_value received ≡ x) ↔ EndsSo received x
 value-end-exactly received x = (λ e. subst (EndsSo received) e (value-end-means received), λ v. ends_so received v)

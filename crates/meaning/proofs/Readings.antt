@@ -9,7 +9,7 @@ use Rattle.buffer.specs.SameLaws.{same_refl, same-eq}
 use Rattle.config.specs.Causes.{no_space}
 use Rattle.config.specs.Config.{refused, settings_of, checked}
 use Rattle.config.specs.Laws.{passed}
-use Rattle.config.specs.declared.CheckedConfig.TheVariants.{Fine}
+use Rattle.std.specs.Prelude.{Ok}
 use Rattle.format.specs.Lists.{All}
 use Rattle.siphash.specs.Sip.{sip_hash13}
 use Rattle.resp3.specs.Ends.{is_value}
@@ -100,7 +100,7 @@ module _ (size mode ttl : ℕ) (s : Bytes) (e : refused size mode (length s) ≡
   p = setup_now (settings_of size mode ttl (length s))
 
   -- cause 1 lets the settings through
-  pub is-fine : checked size mode ttl (length s) ≡ Fine (settings_of size mode ttl (length s))
+  pub is-fine : checked size mode ttl (length s) ≡ Ok (settings_of size mode ttl (length s))
   unfolding checked
   is-fine = rw e
 

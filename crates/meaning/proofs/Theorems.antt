@@ -1,5 +1,5 @@
 -- The meaning theorems: what each exported function's definition comes to is a case of Meaning.antt. Assumes nothing.
-use Rattle.std.specs.Prelude.{◌≡◌, Bool, true, cond, ℕ, ◌≤◌, ltb, length}
+use Rattle.std.specs.Prelude.{Result, Ok, Err, ◌≡◌, Bool, true, cond, ℕ, ◌≤◌, ltb, length}
 use Rattle.std.proofs.Math.Path.{refl, sym, subst}
 use Rattle.std.proofs.Common.{ap, ap₂, ◌∙◌, arith, ltb-true, ltb-false}
 use Rattle.std.proofs.Math.Bool.{false}
@@ -9,18 +9,18 @@ use Rattle.buffer.specs.Same.{Bytes}
 use Rattle.config.specs.Limits.{max_bytes}
 use Rattle.config.specs.Config.{refused, settings_of, checked}
 use Rattle.config.specs.declared.Settings.{Settings}
-use Rattle.config.specs.declared.CheckedConfig.{CheckedConfig}
-use Rattle.config.specs.declared.CheckedConfig.TheVariants.{Fine, Refused as BadConfig}
+use Rattle.std.specs.Prelude.{Ok, Err, Result}
+use Rattle.config.specs.declared.Cause.{Cause}
+use Rattle.config.specs.declared.Cause.TheVariants.{BadConfig}
 use Rattle.resp3.specs.Value.{Means, IsValue}
 use Rattle.resp3.specs.Ends.{is_value}
 use Rattle.resp3.specs.Decode as resp
 use Rattle.resp3_prefix.specs.Begun.{first_value}
 use Rattle.resp3_prefix.specs.Law.{complete-found, least-law, more-law, never-law}
-use Rattle.resp3_prefix.specs.declared.Begun.{Begun}
-use Rattle.resp3_prefix.specs.declared.Begun.TheVariants.{Ends, Lacks, Never}
+use Rattle.resp3_prefix.specs.declared.NotWhole.{NotWhole}
+use Rattle.resp3_prefix.specs.declared.NotWhole.TheVariants.{Lacks, Never}
 use Rattle.call_record.specs.Check.{check_def, check-fine, check-offset}
-use Rattle.call_record.specs.declared.Checked.{Checked}
-use Rattle.call_record.specs.declared.Checked.TheVariants.{Fine as Valid, Wrong}
+use Rattle.format.specs.declared.Wrong.{Wrong}
 use Rattle.cursor.specs.Laws.{decoded-is}
 use Rattle.book.specs.Book.{Setup, Row, Book, Counts, Keyed, lookup, store, invalidate, answers}
 use Rattle.book.specs.Calls.{single, after_call, reply_to, ons, call-defs}
@@ -70,7 +70,7 @@ module _ {R : Type 0} (size mode ttl : ℕ) (s : Bytes) (refusal : ℕ → R) (w
           let i = (readings.rows_of size mode ttl s f rows).0 d in
           on_image f rows i (way given rows) (go rows f i)
 
-      settings : (b : Bool) → refused size mode (length s) ≡ b → Enters size mode ttl s refusal goes_on (entered refusal way (cond b BadConfig (Fine given)) s)
+      settings : (b : Bool) → refused size mode (length s) ≡ b → Enters size mode ttl s refusal goes_on (entered refusal way (cond b (Err BadConfig) (Ok given)) s)
       settings true e = unfold entered in wrong_settings e
       settings false e = unfold entered in arena e (decode is_value (setup_now given) s) refl
 
@@ -88,15 +88,15 @@ value_not s e w = let y = (readings.value s).1 w in let z : ◌≡◌ {A = ℕ} 
 -- ---- planning
 
 module _ (clock epoch : ℕ) (bytes plan send : Bytes) (h : Held) (g : Settings) (rows : ℕ → Row) where
-  judged-means : length bytes ≤ max_bytes → (x : Checked) → check_def bytes ≡ x
+  judged-means : length bytes ≤ max_bytes → (x : Result (Unit {0}) Wrong) → check_def bytes ≡ x
       → Plans clock epoch bytes plan send h g rows (plannings.judged clock epoch bytes plan send h g rows x)
   unfolding plannings.judged
-  judged-means l Valid e =
+  judged-means l (Ok u) e =
       let w = (check-fine bytes).0 e in
       subst (λ r. Plans clock epoch bytes plan send h g rows (recorded clock epoch bytes plan send h g rows r)) (sym (decoded-is bytes w).is)
       (of_record l w.value w.valid w.bytes)
-  judged-means l (Wrong o) e =
-      no_record l o ((check-offset bytes o).0 e)
+  judged-means l (Err w) e =
+      no_record l w.at ((check-offset bytes w.at).0 e)
 
   plans-mean : Plans clock epoch bytes plan send h g rows (plannings.admitted_to clock epoch bytes plan send h g rows)
   unfolding plannings.admitted_to
@@ -256,10 +256,10 @@ module _ (size mode ttl clock epoch : ℕ) (key command : Bytes) (h : Held) wher
   with_place p rows = (looked p rows, place_left p key command (looked p rows))
 
   -- both begin as every call does, and so does their pair
-  abbrev pair : CheckedConfig → Return × ℕ
+  abbrev pair : Result Settings Cause → Return × ℕ
   pair c = entered (λ n. (refused_as n h, 0)) (λ g rows. with_place (setup_now g) rows) c h.arena
 
-  abbrev alone : CheckedConfig → Return
+  abbrev alone : Result Settings Cause → Return
   alone c = entered (λ n. refused_as n h) (λ g rows. looked (setup_now g) rows) c h.arena
 
   rows-entered : (p : Setup) (o : Option (ℕ → Row)) → let x = on_rows (λ n. refused_as n h) (looked p) o in
@@ -268,10 +268,10 @@ module _ (size mode ttl clock epoch : ℕ) (key command : Bytes) (h : Held) wher
   rows-entered p none = refl
   rows-entered p (some rows) = refl
 
-  pair-entered : (c : CheckedConfig) → pair c ≡ (alone c, place_under c key command (alone c))
+  pair-entered : (c : Result Settings Cause) → pair c ≡ (alone c, place_under c key command (alone c))
   unfolding entered place_under
-  pair-entered BadConfig = refl
-  pair-entered (Fine g) = rows-entered (setup_now g) (decode is_value (setup_now g) h.arena)
+  pair-entered (Err cause) = refl
+  pair-entered (Ok g) = rows-entered (setup_now g) (decode is_value (setup_now g) h.arena)
 
   place-entered : pair (checked size mode ttl (length h.arena))
       ≡ (single_call size mode ttl (lookup key command clock epoch) h, lookup_place size mode ttl key command clock epoch h)
@@ -300,7 +300,7 @@ served-means plan buffer = go (decode_plan plan) refl
 pub value-end-means : ValueEndMeans
 value-end-means received = go (first_value received) refl
   where
-    go : (x : Begun) → first_value received ≡ x → EndsSo received x
-    go (Ends n) e = is_complete n (complete-found received n e)
-    go (Lacks k) e = let w = least-law received k e in lacks ((more-law received).0 (k, e)).1 k w.0 w.1
-    go Never e = let w = (never-law received).0 e in never w.0 w.1
+    go : (x : Result ℕ NotWhole) → first_value received ≡ x → EndsSo received x
+    go (Ok n) e = is_complete n (complete-found received n e)
+    go (Err (Lacks k)) e = let w = least-law received k e in lacks ((more-law received).0 (k, e)).1 k w.0 w.1
+    go (Err Never) e = let w = (never-law received).0 e in never w.0 w.1

@@ -12,7 +12,7 @@
 -- resp3_element.Meaning.array_of resp3_element.Meaning.integer_of resp3_element.Meaning.is_error resolving.Pushes.pushed resolving.Pushes.keys_of
 -- resolving.Convert.replies_of single_calls.Single.number_of single_calls.Single.served_by
 -- cache_manager.Pipeline.recorded caching_cmd.Call.resolved_on caching_cmd.Call.refused_as book.Calls.is_refused book.Calls.remaining buffer.Same.same
-use Rattle.std.specs.Prelude.{◌≡◌, ◌↔◌, Bool, true, false, List, [], ◌∷◌, ◌++◌, ℕ, ◌≤◌, ◌<◌, length, ℤ}
+use Rattle.std.specs.Prelude.{Ok, ◌≡◌, ◌↔◌, Bool, true, false, List, [], ◌∷◌, ◌++◌, ℕ, ◌≤◌, ◌<◌, length, ℤ, Result, Err, Option as Maybe, Some}
 use Rattle.std.proofs.Math.Option.{none, some}
 use Rattle.buffer.specs.Same.{Bytes, same}
 use Rattle.buffer.specs.Ascii.{ascii}
@@ -23,18 +23,17 @@ use Rattle.config.specs.declared.Settings.{Settings}
 use Rattle.format.specs.Lists.{All}
 use Rattle.resp3.specs.Value.{Spelling, Value, Values, blob_string, simple_error, number, null_as, blob_error, array, push, none as no_values, more, Means, IsValue}
 use Rattle.resp3.specs.Value.{encode as value_bytes, encs}
-use Rattle.resp3_element.specs.declared.Integer.TheVariants.{Is}
 use Rattle.resp3_element.specs.Meaning.{is_error, integer_of, array_of}
 use Rattle.resp3.specs.Ends.{is_value}
 use Rattle.resp3.specs.Decode as resp
 use Rattle.resp3_prefix.specs.Meaning.{Within, Complete, Begins, NoneComplete, NoneBegins}
 use Rattle.resp3_prefix.specs.Begun.{first_value}
-use Rattle.resp3_prefix.specs.declared.Begun.{Begun}
-use Rattle.resp3_prefix.specs.declared.Begun.TheVariants.{Ends, Lacks, Never}
+use Rattle.resp3_prefix.specs.declared.NotWhole.{NotWhole}
+use Rattle.resp3_prefix.specs.declared.NotWhole.TheVariants.{Lacks, Never}
 use Rattle.call_record.specs.Record.{Record, enc_record, ValidRecord}
 use Rattle.call_record.specs.Offset.{IsRecord, WrongAt}
 use Rattle.call_record.specs.Check.{check_def}
-use Rattle.call_record.specs.declared.Checked.TheVariants.{Fine, Wrong}
+use Rattle.format.specs.Ends.{wrong}
 use Rattle.cursor.specs.At.{record_at}
 use Rattle.book.specs.Book.{Setup, Row, Counts, Answer, hit, no_space as spaceless, Keyed, lookup, store, invalidate}
 use Rattle.book.specs.Calls as pushes
@@ -60,8 +59,8 @@ use Rattle.cache_manager.specs.Pipeline as plannings
 use Rattle.cache_manager.specs.Pipeline.{Left, refusal, recorded}
 use Rattle.caching_cmd.specs.Call as resolvings
 use Rattle.caching_cmd.specs.Call.{ResolveReturn, resolved_on}
-use Rattle.served.specs.declared.ServedAnswer.{ServedAnswer}
-use Rattle.served.specs.declared.ServedAnswer.TheVariants.{Refused}
+use Rattle.config.specs.declared.Cause.{Cause}
+use Rattle.config.specs.declared.Cause.TheVariants.{BadPlan}
 use Rattle.served.specs.Served.{served_answers, served_from, buffer_from, served_call, served_buffer}
 use Rattle.caching.specs.Exported.{lookup_by, store_by, invalidate_by}
 use Rattle.caching.specs.Place.{place_by}
@@ -154,8 +153,8 @@ module _ (key command : Bytes) (clock epoch : ℕ) (h : Held) (g : Settings) (ro
 -- ---- a plan answered alone: 10, and on the plan 8
 
 module _ (plan buffer : Bytes) where
-  pub data Serves : ServedAnswer × Bytes → Type 0 where
-    no_plan_served : (IsPlan plan → ⊥) → Serves (Refused bad_plan, buffer)
+  pub data Serves : Result (Maybe ℕ) Cause × Bytes → Type 0 where
+    no_plan_served : (IsPlan plan → ⊥) → Serves (Err BadPlan, buffer)
     of_plan_served : (p : Plan) → GoodPlan p → plan ≡ enc_plan p
         → Serves (
           served_from p.transaction (served_answers (plan_read p).commands) (length buffer),
@@ -165,11 +164,11 @@ module _ (plan buffer : Bytes) where
 -- ---- the end of the first value in bytes received so far
 
 module _ (received : Bytes) where
-  pub data EndsSo : Begun → Type 0 where
-    is_complete : (n : ℕ) → Complete received n → EndsSo (Ends n)
+  pub data EndsSo : Result ℕ NotWhole → Type 0 where
+    is_complete : (n : ℕ) → Complete received n → EndsSo (Ok n)
     -- so many bytes are lacking at least
-    lacks : NoneComplete received → (k : ℕ) → Begins received k → ((j : ℕ) → Begins received j → k ≤ j) → EndsSo (Lacks k)
-    never : NoneComplete received → NoneBegins received → EndsSo Never
+    lacks : NoneComplete received → (k : ℕ) → Begins received k → ((j : ℕ) → Begins received j → k ≤ j) → EndsSo (Err (Lacks k))
+    never : NoneComplete received → NoneBegins received → EndsSo (Err Never)
 
 -- ---- the theorems' types: for all arguments, with any arena, counts and next number
 
@@ -221,8 +220,8 @@ invalidation v vs = push (more (blob_string (ascii "invalidate")) (more v vs))
 
 pub record Readings : Type 0 where
   -- the record's check, its offset, and the record that is read
-  pub is_record : (s : Bytes) → (check_def s ≡ Fine) ↔ IsRecord s
-  pub offset : (s : Bytes) (o : ℕ) → (check_def s ≡ Wrong o) ↔ WrongAt s o
+  pub is_record : (s : Bytes) → (check_def s ≡ Ok tt) ↔ IsRecord s
+  pub offset : (s : Bytes) (o : ℕ) → (check_def s ≡ wrong o) ↔ WrongAt s o
   pub record_of : (r : Record) → ValidRecord r → record_at (enc_record r) ≡ r
   -- the value's test, and the value that is read
   pub value : (s : Bytes) → (is_value s ≡ true) ↔ IsValue s
@@ -257,7 +256,7 @@ pub record Readings : Type 0 where
   pub same-is : (a b : Bytes) → (same a b ≡ true) ↔ (a ≡ b)
   -- what is asked of a value: the elements of an array, an integer, and whether it is an error; the list of replies, a transaction's inside its own
   pub array-of : (v : Value) (vs : Values) → (array_of v ≡ some vs) ↔ (v ≡ array vs)
-  pub integer-of : (v : Value) (z : ℤ) → (integer_of v ≡ Is z) ↔ (v ≡ number z)
+  pub integer-of : (v : Value) (z : ℤ) → (integer_of v ≡ Some z) ↔ (v ≡ number z)
   pub no-error : (v : Value) → (is_error v ≡ false) ↔ ((xs : Bytes) → (v ≡ simple_error xs → ⊥) × (v ≡ blob_error xs → ⊥))
   pub replies-of : (v : Value) (vs : Values) → (replies_of false v ≡ some vs) ↔ (v ≡ array vs)
   pub replies-in : (v : Value) (vs : Values) → (replies_of true v ≡ some vs) ↔ (v ≡ array (more (array vs) no_values))

@@ -85,7 +85,7 @@ unfolding head_at head_of read_node
 read_one nd r g =
     let t : Bytes = enc_node nd ++ r in
     let h = node_law t 0 nd r (record { good = g; is = refl }) in
-    let k : read32 t 0 ≡ kind_of nd = ap (λ z. z.kind) h.head in
+    let k : read32 t 0 ≡ kind_of nd = h.kind in
     let x : read64 t 12 ≡ number_of nd = ap (λ z. z.number) h.head in
     let m : node_head_size + read32 t 4 ≡ node_head_size + length (first_of nd) = ap (λ z. z.second) h.head in
     let e : node_head_size + read32 t 4 + read32 t 8 ≡ node_head_size + length (first_of nd) + length (second_of nd) = h.ends in

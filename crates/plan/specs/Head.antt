@@ -2,6 +2,7 @@
 use Rattle.std.specs.Prelude.{ℕ, ◌+◌, ◌≤◌, length}
 use Rattle.buffer.specs.Same.{Bytes}
 use Rattle.buffer.specs.Field.{read32, read64}
+use Rattle.planning.specs.Kinds.{kind_of_number}
 use Rattle.planning.specs.Plan.{node_head_size}
 use Rattle.plan.specs.declared.NodeHead.{NodeHead}
 
@@ -13,7 +14,7 @@ end_at s at = at + node_head_size + read32 s (at + 4) + read32 s (at + 8)
 unfoldable pub head_at : Bytes → ℕ → NodeHead
 head_at s at =
     record {
-      kind = read32 s at;
+      kind = kind_of_number (read32 s at);
       first = at + node_head_size;
       second = at + node_head_size + read32 s (at + 4);
       end = end_at s at;

@@ -8,6 +8,7 @@ use Rattle.buffer.specs.FieldLaws.{length-le, read_past, read_here, read-agree}
 use Rattle.buffer.specs.Lists.{drop_past}
 use Rattle.buffer.specs.Part.{part}
 use Rattle.buffer.specs.PartLaws.{part-drop}
+use Rattle.planning.specs.Kinds.{kind_of_number}
 use Rattle.planning.specs.Plan.{Node, node_head_size, node_bytes, enc_node}
 use Rattle.planning.specs.Rules.{GoodNode}
 use Rattle.plan.specs.declared.NodeHead.{NodeHead}
@@ -88,7 +89,7 @@ pub record NodeAt (s : Bytes) (at : ℕ) (nd : Node) (r : Bytes) : Type 0 where
 unfoldable pub head_of : ℕ → Node → NodeHead
 head_of at nd =
     record {
-      kind = kind_of nd;
+      kind = kind_of_number (kind_of nd);
       first = at + node_head_size;
       second = at + node_head_size + length (first_of nd);
       end = at + node_head_size + length (first_of nd) + length (second_of nd);
@@ -99,6 +100,7 @@ head_of at nd =
 pub record Told (s : Bytes) (at : ℕ) (nd : Node) (r : Bytes) : Type 0 where
   pub inside : HeadIn s at
   pub head : head_at s at ≡ head_of at nd
+  pub kind : read32 s at ≡ kind_of nd
   pub ends : end_at s at ≡ at + node_head_size + length (first_of nd) + length (second_of nd)
   pub long : at + node_head_size + length (first_of nd) + length (second_of nd) ≤ length s
   pub first : part s (at + node_head_size) (length (first_of nd)) ≡ first_of nd
@@ -162,6 +164,7 @@ node_law s at nd r h =
     record {
       inside = (omega arith, omega arith);
       head = rw (k, x, i, j);
+      kind = k;
       ends = omega arith;
       long = l;
       first = first_part s at (kind_of nd) a b (number_of nd) r f is;

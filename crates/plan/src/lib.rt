@@ -5,10 +5,12 @@
 ghost use Rattle.std.specs.Prelude.{◌≡◌};
 ghost use Rattle.plan.specs.Head.{head_at, HeadIn};
 
-// A node's head: its kind; its two parts, from `first` up to `second` and from there up to `end`, where the next node stands; its number.
+use planning::{NodeKind, UnknownKind};
+
+// A node's head: its kind, or a number that is none's; its two parts, from `first` up to `second` and from there up to `end`, where the next node stands; its number.
 #[derive(Clone, Copy)]
 pub struct NodeHead {
-    pub kind: u32,
+    pub kind: Result<NodeKind, UnknownKind>,
     pub first: usize,
     pub second: usize,
     pub end: usize,
@@ -20,16 +22,16 @@ pub fn node_at(plan: &[u8], at: usize) -> NodeHead
     requires { HeadIn plan.now at }
     ensures { result ≡ head_at plan.now at }
 {
-    let kind = buffer::read_u32(plan, at);
+    let kind = NodeKind::try_from(buffer::read_u32(plan, at));
     let first = at + planning::NODE_HEAD;
     let second = first + buffer::read_u32(plan, at + 4) as usize;
     let end = second + buffer::read_u32(plan, at + 8) as usize;
     let number = buffer::read_u64(plan, at + 12);
     NodeHead {
-        kind: kind,
-        first: first,
-        second: second,
-        end: end,
-        number: number,
+        kind,
+        first,
+        second,
+        end,
+        number,
     }
 }

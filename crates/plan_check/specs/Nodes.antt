@@ -1,5 +1,5 @@
 -- The test of a node by itself finds exactly the good nodes: where it holds a good node stands there, and where one stands it holds. Assumes nothing.
-use Rattle.std.specs.Prelude.{◌≡◌, true, false, cond, [], ◌∷◌, ◌++◌, ℕ, ◌+◌, ◌-◌, ◌^◌, ◌≤◌, ◌<◌, eqb, length, drop}
+use Rattle.std.specs.Prelude.{◌≡◌, true, false, Result, Ok, Err, [], ◌∷◌, ◌++◌, ℕ, ◌+◌, ◌-◌, ◌^◌, ◌≤◌, ◌<◌, eqb, length, drop}
 use Rattle.std.proofs.Math.Path.{refl}
 use Rattle.std.proofs.Common.{sym, ap, ◌∙◌, arith}
 use Rattle.std.proofs.Math.Bool.{Bool}
@@ -14,7 +14,11 @@ use Rattle.config.specs.Limits.{max_key, max_command_key, max_arguments}
 use Rattle.resp3.specs.Ends.{is_value}
 use Rattle.resp3.proofs.Law.{value-law}
 use Rattle.planning.specs.Plan.{Node, hand_on, served_value, all_served, missing_key, several, waiting_place, end_of_several, node_bytes, enc_node}
-use Rattle.planning.specs.Plan.{hand_on_kind, served_kind, all_served_kind, missing_kind, several_kind, waiting_kind, end_kind}
+use Rattle.planning.specs.Plan.{served_kind, missing_kind, waiting_kind}
+use Rattle.planning.specs.Kinds.{kind_of_number, kind_is}
+use Rattle.planning.specs.declared.NodeKind.{NodeKind}
+use Rattle.planning.specs.declared.NodeKind.TheVariants.{HandOn, Served, AllServed, Missing, Several, Waiting, End}
+use Rattle.planning.specs.declared.UnknownKind.{UnknownKind}
 use Rattle.planning.specs.Rules.{GoodNode}
 use Rattle.plan.specs.Head.{head_at, end_at, HeadIn}
 use Rattle.plan.specs.Node.{kind_of, first_of, second_of, number_of, node-defs}
@@ -105,35 +109,19 @@ module _ (k : ℕ) (A B : Bytes) (x : ℕ) where
       }
 
   -- by the kind
-  pub fine-good : x < 2 ^ 64 → kind_fine k (length A) (length B) x (is_value A) ≡ true → GoodParts k A B x
+  pub fine-good : x < 2 ^ 64 → kind_fine (kind_of_number k) (length A) (length B) x (is_value A) ≡ true → GoodParts k A B x
   unfolding kind_fine enc_node GoodNode
-  fine-good l h =
-      go (eqb k hand_on_kind) (eqb k served_kind) (eqb k all_served_kind) (eqb k missing_kind) (eqb k several_kind) (eqb k waiting_kind) (eqb k end_kind)
-      refl refl refl refl refl refl refl h
+  fine-good l h = go (kind_of_number k) refl h
     where
-      E₁ : Bool
-      E₁ = empty_fine (length A) (length B) x
-
-      V₁ : Bool
-      V₁ = value_fine (length B) x (is_value A)
-
-      P₁ : Bool
-      P₁ = places_fine (length A) (length B) x
-
-      K₁ : Bool
-      K₁ = key_fine (length A) (length B)
-
-      go : (t₀ t₁ t₂ t₃ t₄ t₅ t₆ : Bool) → eqb k hand_on_kind ≡ t₀ → eqb k served_kind ≡ t₁ → eqb k all_served_kind ≡ t₂ → eqb k missing_kind ≡ t₃
-          → eqb k several_kind ≡ t₄ → eqb k waiting_kind ≡ t₅ → eqb k end_kind ≡ t₆
-          → cond t₀ E₁ (cond t₁ V₁ (cond t₂ P₁ (cond t₃ K₁ (cond t₄ P₁ (cond t₅ K₁ (cond t₆ E₁ false)))))) ≡ true → GoodParts k A B x
-      go true t₁ t₂ t₃ t₄ t₅ t₆ e₀ e₁ e₂ e₃ e₄ e₅ e₆ g = empty-good hand_on tt (rw (eqb-true k hand_on_kind e₀)) g
-      go false true t₂ t₃ t₄ t₅ t₆ e₀ e₁ e₂ e₃ e₄ e₅ e₆ g = value-good (eqb-true k served_kind e₁) g
-      go false false true t₃ t₄ t₅ t₆ e₀ e₁ e₂ e₃ e₄ e₅ e₆ g = places-good all_served (λ q. q) (rw (eqb-true k all_served_kind e₂)) g
-      go false false false true t₄ t₅ t₆ e₀ e₁ e₂ e₃ e₄ e₅ e₆ g = missing-good (eqb-true k missing_kind e₃) l g
-      go false false false false true t₅ t₆ e₀ e₁ e₂ e₃ e₄ e₅ e₆ g = places-good several (λ q. q) (rw (eqb-true k several_kind e₄)) g
-      go false false false false false true t₆ e₀ e₁ e₂ e₃ e₄ e₅ e₆ g = waiting-good (eqb-true k waiting_kind e₅) l g
-      go false false false false false false true e₀ e₁ e₂ e₃ e₄ e₅ e₆ g = empty-good end_of_several tt (rw (eqb-true k end_kind e₆)) g
-      go false false false false false false false e₀ e₁ e₂ e₃ e₄ e₅ e₆ g = absurd (false≢true g)
+      go : (r : Result NodeKind UnknownKind) → kind_of_number k ≡ r → kind_fine r (length A) (length B) x (is_value A) ≡ true → GoodParts k A B x
+      go (Ok HandOn) e g = empty-good hand_on tt (rw (kind_is k HandOn e)) g
+      go (Ok Served) e g = value-good (kind_is k Served e) g
+      go (Ok AllServed) e g = places-good all_served (λ q. q) (rw (kind_is k AllServed e)) g
+      go (Ok Missing) e g = missing-good (kind_is k Missing e) l g
+      go (Ok Several) e g = places-good several (λ q. q) (rw (kind_is k Several e)) g
+      go (Ok Waiting) e g = waiting-good (kind_is k Waiting e) l g
+      go (Ok End) e g = empty-good end_of_several tt (rw (kind_is k End e)) g
+      go (Err n) e g = absurd (false≢true g)
 
 -- some good node stands at `at`, and what follows it from its end on
 pub record Stands (s : Bytes) (at : ℕ) : Type 0 where
@@ -157,14 +145,14 @@ fine-stands s octets at e f =
     let lb : length B ≡ b = length_part s (at + 20 + a) b (omega arith) in
     let da : at + 20 + a - (at + 20) ≡ a = omega arith in
     let db : at + 20 + a + b - (at + 20 + a) ≡ b = omega arith in
-    let t : kind_fine (read32 s at) a b (read64 s (at + 12)) (is_value A) ≡ true = rw (da, db) at f in
+    let t : kind_fine (kind_of_number (read32 s at)) a b (read64 s (at + 12)) (is_value A) ≡ true = rw (da, db) at f in
     let g = fine-good (read32 s at) A B (read64 s (at + 12)) (read_below 8 s (at + 12) octets) (rw (la, lb) t) in
     stands_by s at (read32 s at) A B (read64 s (at + 12)) g (node-bytes s octets at a b h refl refl)
 
 -- ---- where a good node stands, the test holds
 
-good-fine : (nd : Node) → GoodNode nd → kind_fine (kind_of nd) (length (first_of nd)) (length (second_of nd)) (number_of nd) (is_value (first_of nd)) ≡ true
-unfolding node-defs kind_fine GoodNode
+good-fine : (nd : Node) → GoodNode nd → kind_fine (kind_of_number (kind_of nd)) (length (first_of nd)) (length (second_of nd)) (number_of nd) (is_value (first_of nd)) ≡ true
+unfolding node-defs kind_fine kind_of_number GoodNode
 good-fine hand_on g = refl
 good-fine (served_value v) g = (value-law v).1 g
 good-fine (all_served n) g = le-leb n max_arguments g

@@ -1,21 +1,23 @@
 -- One equation for each way through the code that needs more than the tests along it. Assumes nothing.
-use Rattle.std.specs.Prelude.{◌≡◌, refl, Bool, ℕ, ◌+◌, ◌-◌, ◌≤◌, ◌<◌, length, get_or}
+use Rattle.std.specs.Prelude.{◌≡◌, refl, ◌⊎◌, None, Ok, Err, Bool, ℕ, ◌+◌, ◌-◌, ◌≤◌, ◌<◌, length, get_or}
 use Rattle.std.proofs.Math.Bool.{true, false}
 use Rattle.std.proofs.lemmas.Bool.{false≢true}
-use Rattle.std.proofs.Common.{arith}
+use Rattle.std.proofs.Common.{ap, ◌∙◌, inl, inr, arith}
 use Rattle.std.proofs.Math.Dec.{leb}
-use borrow.Author.Tests.{ne_eqb, le-leb, lt-leb, leb-true, leb-false}
+use borrow.Author.Tests.{le-leb, lt-leb, leb-true, leb-false}
 use Rattle.buffer.specs.Same.{Bytes, same}
 use Rattle.buffer.specs.Field.{read32}
 use Rattle.buffer.specs.Part.{part}
 use Rattle.config.specs.Limits.{max_commands}
 use Rattle.resp3.specs.Value.{null_bytes}
 use Rattle.resp3.specs.Ends.{is_value}
-use Rattle.planning.specs.Plan.{hand_on_kind, served_kind, all_served_kind, missing_kind, several_kind, waiting_kind, end_kind, plan_head_size, null_start}
+use Rattle.planning.specs.Plan.{plan_head_size, null_start}
+use Rattle.planning.specs.declared.NodeKind.{NodeKind}
+use Rattle.planning.specs.declared.NodeKind.TheVariants.{HandOn, Served, AllServed, Missing, Several, Waiting, End}
+use Rattle.planning.specs.declared.UnknownKind.{UnknownKind}
 use Rattle.plan.specs.declared.NodeHead.{NodeHead}
 use Rattle.plan.specs.Head.{end_at, head_at, HeadIn}
 use Rattle.plan_check.specs.declared.Walk.{Walk}
-use Rattle.plan_check.specs.declared.Walked.TheVariants.{Refused}
 use Rattle.plan_check.specs.Check.{both, whole_at, empty_fine, value_fine, places_fine, key_fine, kind_fine, head_fine, followed, walked_past, start_fine}
 
 -- ---- a whole node
@@ -53,57 +55,61 @@ module _ (s : Bytes) (h : NodeHead) where
   abbrev b : ℕ
   b = h.end - h.second
 
-  pub kind_0 : h.kind ≡ hand_on_kind → head_fine s h ≡ empty_fine a b h.number
+  pub kind_0 : h.kind ≡ Ok HandOn → head_fine s h ≡ empty_fine a b h.number
   unfolding head_fine kind_fine
   kind_0 e = rw e
 
-  pub kind_1 : h.kind ≡ served_kind → head_fine s h ≡ value_fine b h.number (is_value (part s h.first a))
+  pub kind_1 : h.kind ≡ Ok Served → head_fine s h ≡ value_fine b h.number (is_value (part s h.first a))
   unfolding head_fine kind_fine
   kind_1 e = rw e
 
-  pub kind_2 : h.kind ≡ all_served_kind → head_fine s h ≡ places_fine a b h.number
+  pub kind_2 : h.kind ≡ Ok AllServed → head_fine s h ≡ places_fine a b h.number
   unfolding head_fine kind_fine
   kind_2 e = rw e
 
-  pub kind_3 : h.kind ≡ missing_kind → head_fine s h ≡ key_fine a b
+  pub kind_3 : h.kind ≡ Ok Missing → head_fine s h ≡ key_fine a b
   unfolding head_fine kind_fine
   kind_3 e = rw e
 
-  pub kind-4 : h.kind ≡ several_kind → head_fine s h ≡ places_fine a b h.number
+  pub kind-4 : h.kind ≡ Ok Several → head_fine s h ≡ places_fine a b h.number
   unfolding head_fine kind_fine
   kind-4 e = rw e
 
-  pub kind-5 : h.kind ≡ waiting_kind → head_fine s h ≡ key_fine a b
+  pub kind-5 : h.kind ≡ Ok Waiting → head_fine s h ≡ key_fine a b
   unfolding head_fine kind_fine
   kind-5 e = rw e
 
-  pub kind-6 : h.kind ≡ end_kind → head_fine s h ≡ empty_fine a b h.number
+  pub kind-6 : h.kind ≡ Ok End → head_fine s h ≡ empty_fine a b h.number
   unfolding head_fine kind_fine
   kind-6 e = rw e
 
-  pub kind-other : (h.kind ≡ hand_on_kind → ⊥) → (h.kind ≡ served_kind → ⊥) → (h.kind ≡ all_served_kind → ⊥) → (h.kind ≡ missing_kind → ⊥)
-      → (h.kind ≡ several_kind → ⊥) → (h.kind ≡ waiting_kind → ⊥) → (h.kind ≡ end_kind → ⊥)
-      → head_fine s h ≡ false
+  pub kind-other : (n : UnknownKind) → h.kind ≡ Err n → head_fine s h ≡ false
   unfolding head_fine kind_fine
-  kind-other n₀ n₁ n₂ n₃ n₄ n₅ n₆ =
-      rw (
-        ne_eqb h.kind hand_on_kind n₀,
-        ne_eqb h.kind served_kind n₁,
-        ne_eqb h.kind all_served_kind n₂,
-        ne_eqb h.kind missing_kind n₃,
-        ne_eqb h.kind several_kind n₄,
-        ne_eqb h.kind waiting_kind n₅,
-        ne_eqb h.kind end_kind n₆,
-      )
+  kind-other n e = rw e
+
+-- ---- by the kind of a head that has one, as the code's arms put kinds together
+
+module _ (s : Bytes) (h : NodeHead) (k : NodeKind) (e : h.kind ≡ Ok k) where
+  pub kind-empty : (k ≡ HandOn) ⊎ (k ≡ End) → head_fine s h ≡ empty_fine (a s h) (b s h) h.number
+  kind-empty (inl q) = kind_0 s h (e ∙ ap Ok q)
+  kind-empty (inr q) = kind-6 s h (e ∙ ap Ok q)
+
+  pub kind-places : (k ≡ AllServed) ⊎ (k ≡ Several) → head_fine s h ≡ places_fine (a s h) (b s h) h.number
+  kind-places (inl q) = kind_2 s h (e ∙ ap Ok q)
+  kind-places (inr q) = kind-4 s h (e ∙ ap Ok q)
+
+  pub kind-key : (k ≡ Missing) ⊎ (k ≡ Waiting) → head_fine s h ≡ key_fine (a s h) (b s h)
+  kind-key (inl q) = kind_3 s h (e ∙ ap Ok q)
+  kind-key (inr q) = kind-5 s h (e ∙ ap Ok q)
 
 -- ---- a step
 
 module _ (s : Bytes) (w : Walk) where
-  pub step_cut : whole_at s w.at ≡ false → walked_past s w ≡ Refused
+  pub step_cut : whole_at s w.at ≡ false → walked_past s w ≡ None
   unfolding walked_past
   step_cut e = rw e
 
-  pub step-bad : whole_at s w.at ≡ true → head_fine s (head_at s w.at) ≡ false → walked_past s w ≡ Refused
+  pub step-bad : whole_at s w.at ≡ true → head_fine s (head_at s w.at) ≡ false → walked_past s w ≡ None
   unfolding walked_past
   step-bad e f = rw (e, f)
 

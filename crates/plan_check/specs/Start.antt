@@ -1,6 +1,6 @@
 -- The start of a plan: where its test holds, the bytes are a plan exactly if the walk from the first node finds the nodes that have to follow; where it does
 -- not, they are none. And the walk as a whole: what is known wherever it has come to. Assumes nothing.
-use Rattle.std.specs.Prelude.{◌≡◌, refl, Bool, true, false, cond, ◌∷◌, ◌++◌, ℕ, zero, suc, ◌≤◌, ◌<◌, length, get_or, drop, eqb}
+use Rattle.std.specs.Prelude.{◌≡◌, refl, None, Some, Bool, true, false, cond, ◌∷◌, ◌++◌, ℕ, zero, suc, ◌≤◌, ◌<◌, length, get_or, drop, eqb}
 use Rattle.std.proofs.Common.{sym, ap, ap₂, ◌∙◌, arith, length-append, drop-cons, leb-true, le-leb}
 use Rattle.std.proofs.lemmas.Bool.{false≢true}
 use Rattle.buffer.specs.Cases.{by_test}
@@ -18,7 +18,6 @@ use Rattle.planning.specs.Rules.{values_then, ordered, IsPlan}
 use Rattle.plan.specs.Decode.{is_plan}
 use Rattle.plan.proofs.Law.{read-start, plan-law}
 use Rattle.plan_check.specs.declared.Walk.{Walk}
-use Rattle.plan_check.specs.declared.Walked.TheVariants.{To, Refused}
 use Rattle.plan_check.specs.Check.{walked_past, finished, start_fine, start_at}
 use Rattle.plan_check.specs.Paths.{both_yes}
 use Rattle.plan_check.specs.Nodes.{field-then}
@@ -115,7 +114,7 @@ walk-starts s octets e = record { inside = q.long; ahead = on; back = off }
         }
 
 -- a step keeps it, and goes on
-pub walk-on : (s : Bytes) → Octets s → (w v : Walk) → Reached s w → walked_past s w ≡ To v → Reached s v × (w.at < v.at)
+pub walk-on : (s : Bytes) → Octets s → (w v : Walk) → Reached s w → walked_past s w ≡ Some v → Reached s v × (w.at < v.at)
 walk-on s octets w v r e =
     let t = step-to s w octets v e in (record { inside = t.inside; ahead = λ p. t.ahead (r.ahead p); back = λ q. r.back (t.back q) }, t.more)
 
@@ -129,7 +128,7 @@ pub check-start : (s : Bytes) → start_fine s ≡ false → is_plan s ≡ false
 check-start s e = plan-no s (λ w. false≢true (sym e ∙ plan-start s w))
 
 -- a step that is refused
-pub check-refused : (s : Bytes) (w : Walk) → Reached s w → w.at < length s → walked_past s w ≡ Refused → is_plan s ≡ false
+pub check-refused : (s : Bytes) (w : Walk) → Reached s w → w.at < length s → walked_past s w ≡ None → is_plan s ≡ false
 check-refused s w r l e = plan-no s (λ p. step-refused s w l e (r.ahead p))
 
 -- the end

@@ -10,22 +10,17 @@ ghost use Rattle.plan_check.specs.Check.{whole_at, empty_fine, value_fine, place
 ghost use Rattle.plan_check.specs.Check.{followed, walked_past, finished, start_fine, start_at};
 
 use plan::NodeHead;
+use planning::NodeKind;
 
 // Where the walk over the nodes stands, and what has to follow there: so many places of a command whose places are all served, or of several keys
 // (and then the end of several), and after them so many commands.
+// Kept: the flag is no plainer as an enum over the number, which is counted down alike either way, and asked for by itself at the end.
 #[derive(Clone, Copy)]
 struct Walk {
     at: usize,
     commands: u32,
     places: u64,
     several: bool,
-}
-
-// A step of the walk.
-#[derive(Clone, Copy)]
-enum Walked {
-    To(Walk),
-    Refused,
 }
 
 // Whether a whole node stands at `at`.
@@ -98,153 +93,117 @@ fn node_ok(plan: &[u8], h: NodeHead) -> bool
     requires { (h.first ≤ h.second) × (h.second ≤ h.end) × (h.end ≤ length plan.now) }
     ensures { result ≡ head_fine plan.now h }
 {
-    let kind = h.kind;
     let number = h.number;
     let from = h.first;
     let to = h.second;
     let first = to - from;
     let second = h.end - to;
-    if kind == planning::NODE_HAND_ON {
-        return empty_ok(first, second, number);
+    let Ok(kind) = h.kind else {
+        return false;
+    };
+    match kind {
+        NodeKind::HandOn | NodeKind::End => empty_ok(first, second, number),
+        NodeKind::Served => value_ok(&plan[from..to], second, number),
+        NodeKind::AllServed | NodeKind::Several => places_ok(first, second, number),
+        NodeKind::Missing | NodeKind::Waiting => key_ok(first, second),
     }
-    if kind == planning::NODE_SERVED {
-        return value_ok(&plan[from..to], second, number);
-    }
-    if kind == planning::NODE_ALL_SERVED {
-        return places_ok(first, second, number);
-    }
-    if kind == planning::NODE_MISSING {
-        return key_ok(first, second);
-    }
-    if kind == planning::NODE_SEVERAL {
-        return places_ok(first, second, number);
-    }
-    if kind == planning::NODE_WAITING {
-        return key_ok(first, second);
-    }
-    if kind == planning::NODE_END {
-        return empty_ok(first, second, number);
-    }
-    false
 }
 
 // Past a node that has to be a command's first.
-fn as_command(commands: u32, h: NodeHead) -> Walked
-    ensures { result ≡ as_command commands h.kind h.number h.end }
+fn as_command(commands: u32, kind: NodeKind, number: u64, end: usize) -> Option<Walk>
+    ensures { result ≡ as_command commands kind number end }
 {
-    let kind = h.kind;
     if commands == 0 {
-        return Walked::Refused;
+        return None;
     }
-    if kind == planning::NODE_ALL_SERVED {
-        return Walked::To(Walk {
-            at: h.end,
-            commands: commands - 1,
-            places: h.number,
-            several: false,
-        });
-    }
-    if kind == planning::NODE_SEVERAL {
-        return Walked::To(Walk {
-            at: h.end,
-            commands: commands - 1,
-            places: h.number,
-            several: true,
-        });
-    }
-    if kind > planning::NODE_SEVERAL {
-        return Walked::Refused;
-    }
-    Walked::To(Walk {
-        at: h.end,
+    let (places, several) = match kind {
+        NodeKind::AllServed => (number, false),
+        NodeKind::Several => (number, true),
+        NodeKind::HandOn | NodeKind::Served | NodeKind::Missing => (0, false),
+        NodeKind::Waiting | NodeKind::End => return None,
+    };
+    Some(Walk {
+        at: end,
         commands: commands - 1,
-        places: 0,
-        several: false,
+        places,
+        several,
     })
 }
 
 // Past a node where so many served values have to follow.
-fn as_value(places: u64, commands: u32, h: NodeHead) -> Walked
-    ensures { result ≡ as_value places commands h.kind h.number h.end }
+fn as_value(places: u64, commands: u32, kind: NodeKind, number: u64, end: usize) -> Option<Walk>
+    ensures { result ≡ as_value places commands kind number end }
 {
     if places == 0 {
-        return as_command(commands, h);
+        return as_command(commands, kind, number, end);
     }
-    if h.kind == planning::NODE_SERVED {
-        return Walked::To(Walk {
-            at: h.end,
-            commands: commands,
+    if kind == NodeKind::Served {
+        return Some(Walk {
+            at: end,
+            commands,
             places: places - 1,
             several: false,
         });
     }
-    Walked::Refused
+    None
 }
 
 // Past a node that has to be the end of several keys.
-fn as_end(commands: u32, h: NodeHead) -> Walked
-    ensures { result ≡ as_end commands h.kind h.end }
+fn as_end(commands: u32, kind: NodeKind, end: usize) -> Option<Walk>
+    ensures { result ≡ as_end commands kind end }
 {
-    if h.kind == planning::NODE_END {
-        return Walked::To(Walk {
-            at: h.end,
-            commands: commands,
+    if kind == NodeKind::End {
+        return Some(Walk {
+            at: end,
+            commands,
             places: 0,
             several: false,
         });
     }
-    Walked::Refused
+    None
 }
 
 // Past a node where so many places of several keys, and their end, have to follow.
-fn as_place(places: u64, commands: u32, h: NodeHead) -> Walked
-    ensures { result ≡ as_place places commands h.kind h.end }
+fn as_place(places: u64, commands: u32, kind: NodeKind, end: usize) -> Option<Walk>
+    ensures { result ≡ as_place places commands kind end }
 {
-    let kind = h.kind;
     if places == 0 {
-        return as_end(commands, h);
+        return as_end(commands, kind, end);
     }
-    if kind == planning::NODE_SERVED {
-        return Walked::To(Walk {
-            at: h.end,
-            commands: commands,
+    if kind == NodeKind::Served || kind == NodeKind::Waiting {
+        return Some(Walk {
+            at: end,
+            commands,
             places: places - 1,
             several: true,
         });
     }
-    if kind == planning::NODE_WAITING {
-        return Walked::To(Walk {
-            at: h.end,
-            commands: commands,
-            places: places - 1,
-            several: true,
-        });
-    }
-    Walked::Refused
+    None
 }
 
 // Past the node of that head, where the walk stands.
-fn follow(w: Walk, h: NodeHead) -> Walked
+fn follow(w: Walk, h: NodeHead) -> Option<Walk>
     ensures { result ≡ followed w h }
 {
+    let kind = h.kind.ok()?;
     if w.several {
-        return as_place(w.places, w.commands, h);
+        return as_place(w.places, w.commands, kind, h.end);
     }
-    as_value(w.places, w.commands, h)
+    as_value(w.places, w.commands, kind, h.number, h.end)
 }
 
 // Past the node at which the walk stands, if one stands there that may follow.
-fn past_node(plan: &[u8], w: Walk) -> Walked
+fn past_node(plan: &[u8], w: Walk) -> Option<Walk>
     requires { w.at ≤ length plan.now }
     ensures { result ≡ walked_past plan.now w }
 {
     let at = w.at;
     if !whole_at(plan, at) {
-        return Walked::Refused;
+        return None;
     }
     let h = plan::node_at(plan, at);
     if !node_ok(plan, h) {
-        return Walked::Refused;
+        return None;
     }
     follow(w, h)
 }
@@ -299,8 +258,9 @@ pub fn is_plan(plan: &[u8]) -> bool
         return false;
     }
     let mut w = walk_start(plan);
+    // Kept: a walk is no list: where the next node stands is known only once this one was read, and the walk may end early.
     while w.at < plan.len() {
-        let Walked::To(next) = past_node(plan, w) else {
+        let Some(next) = past_node(plan, w) else {
             return false;
         };
         w = next;

@@ -7,10 +7,12 @@ ghost use Rattle.std.specs.Prelude.{◌≡◌, cond, [], ◌+◌, ◌≤◌, len
 ghost use Rattle.buffer.specs.Part.{put};
 ghost use Rattle.config.specs.Limits.{max_arena, max_bytes};
 ghost use Rattle.command_key.specs.Key.{key_bytes, KeyIn};
+ghost use Rattle.planning.specs.Kinds.{number_of_kind};
 ghost use Rattle.planning.specs.Plan.{node_bytes, served_kind, plan_head_size, node_head_size};
 ghost use Rattle.plan_write.specs.Pieces.{plan_head, node_head};
 
 use command_key::CommandKey;
+use planning::NodeKind;
 
 // The plan's flags: bit 0 says that it is a transaction's.
 fn flags(transaction: bool) -> u8
@@ -31,20 +33,21 @@ pub fn write_plan_head(dst: &mut [u8], transaction: bool, commands: u32) -> usiz
 }
 
 // A node's kind, the lengths of its parts, and its number.
-fn write_node_head(dst: &mut [u8], to: usize, kind: u32, first: u32, second: u32, number: u64)
+fn write_node_head(dst: &mut [u8], to: usize, kind: NodeKind, first: u32, second: u32, number: u64)
     requires { to + node_head_size ≤ length dst.old }
-    ensures { dst.new ≡ put dst.old to (node_head kind first second number) }
+    ensures { dst.new ≡ put dst.old to (node_head (number_of_kind kind) first second number) }
 {
-    buffer::write_u32(dst, to, kind);
+    buffer::write_u32(dst, to, u32::from(kind));
     buffer::write_u32(dst, to + 4, first);
     buffer::write_u32(dst, to + 8, second);
     buffer::write_u64(dst, to + 12, number);
 }
 
 // A node with no parts: a reply handed on, the number of places of a several-key command, its end.
-pub fn write_bare(dst: &mut [u8], to: usize, kind: u32, number: u64) -> usize
-    requires { to + length (node_bytes kind [] [] number) ≤ length dst.old }
-    ensures { (result ≡ to + length (node_bytes kind [] [] number)) × (dst.new ≡ put dst.old to (node_bytes kind [] [] number)) }
+pub fn write_bare(dst: &mut [u8], to: usize, kind: NodeKind, number: u64) -> usize
+    requires { to + length (node_bytes (number_of_kind kind) [] [] number) ≤ length dst.old }
+    ensures { (result ≡ to + length (node_bytes (number_of_kind kind) [] [] number))
+        × (dst.new ≡ put dst.old to (node_bytes (number_of_kind kind) [] [] number)) }
 {
     write_node_head(dst, to, kind, 0, 0, number);
     to + planning::NODE_HEAD
@@ -56,7 +59,7 @@ pub fn write_served(dst: &mut [u8], to: usize, value: &[u8]) -> usize
     ensures { (result ≡ to + length (node_bytes served_kind value.now [] 0))
         × (dst.new ≡ put dst.old to (node_bytes served_kind value.now [] 0)) }
 {
-    write_node_head(dst, to, planning::NODE_SERVED, value.len() as u32, 0, 0);
+    write_node_head(dst, to, NodeKind::Served, value.len() as u32, 0, 0);
     buffer::copy_to(dst, to + planning::NODE_HEAD, value);
     to + planning::NODE_HEAD + value.len()
 }
@@ -73,16 +76,16 @@ pub fn missing_len(key: &[u8], source: &[u8], command: CommandKey) -> usize
 pub fn write_missing(
     dst: &mut [u8],
     to: usize,
-    kind: u32,
+    kind: NodeKind,
     key: &[u8],
     source: &[u8],
     command: CommandKey,
     expiry: u64,
 ) -> usize
     requires { KeyIn source.now command × (length key.now ≤ max_bytes) × (length source.now ≤ max_bytes)
-        × (to + length (node_bytes kind key.now (key_bytes source.now command) expiry) ≤ length dst.old) }
-    ensures { (result ≡ to + length (node_bytes kind key.now (key_bytes source.now command) expiry))
-        × (dst.new ≡ put dst.old to (node_bytes kind key.now (key_bytes source.now command) expiry)) }
+        × (to + length (node_bytes (number_of_kind kind) key.now (key_bytes source.now command) expiry) ≤ length dst.old) }
+    ensures { (result ≡ to + length (node_bytes (number_of_kind kind) key.now (key_bytes source.now command) expiry))
+        × (dst.new ≡ put dst.old to (node_bytes (number_of_kind kind) key.now (key_bytes source.now command) expiry)) }
 {
     let n = command_key::key_len(source, command);
     write_node_head(dst, to, kind, key.len() as u32, n as u32, expiry);

@@ -1,5 +1,5 @@
 -- No plan that planning writes breaks a rule. Assumes nothing.
-use Rattle.std.specs.Prelude.{◌≡◌, refl, Bool, true, false, ◌||◌, ℕ, zero, suc, ◌^◌, ◌≤◌, ◌<◌, length, take, drop}
+use Rattle.std.specs.Prelude.{◌≡◌, refl, Bool, true, false, ◌||◌, ℕ, zero, suc, ◌^◌, ◌≤◌, ◌<◌, length, take, drop, Option, None, Some}
 use Rattle.std.proofs.Common.{sym, arith, length-append, leb-false}
 use Rattle.std.proofs.lemmas.Bool.{false≢true}
 use mathlib.Core.List.{List, [], ◌∷◌, ◌++◌}
@@ -12,7 +12,7 @@ use Rattle.format.specs.Lists.{enc_all, All}
 use Rattle.commands.specs.Names.{is_cacheable}
 use Rattle.commands.specs.MultiKey.{multi_key}
 use Rattle.commands.specs.declared.MultiKey.{MultiKey}
-use Rattle.commands.specs.declared.MultiKey.TheVariants.{None, Mget, JsonMget}
+use Rattle.commands.specs.declared.MultiKey.TheVariants.{Mget, JsonMget}
 use Rattle.resp3.specs.Value.{IsValue}
 use Rattle.call_record.specs.Record.{Argument, simple, cursor, Command, Record, transaction, ValidArgument, ValidCommand, ValidRecord, enc_argument}
 use Rattle.call_record.specs.Record.{enc_command, enc_record}
@@ -183,13 +183,13 @@ module _ (c : Command) (said : List Answer) (fine : All GoodAnswer said) (x : �
   asked-several-nodes n (k ∷ ks) path h g q = several-nodes n (k ∷ ks) path h g q
 
   -- by the name
-  named-nodes : (m : MultiKey) (n : Bytes) → All ValidArgument c.args → length c.args ≤ max_arguments → length (command_key c.args) ≤ max_command_key
+  named-nodes : (m : Option MultiKey) (n : Bytes) → All ValidArgument c.args → length c.args ≤ max_arguments → length (command_key c.args) ≤ max_command_key
       → All GoodNode (nodes_of (outcome c (ask_by m n c.args x) said))
   unfolding ask_by
-  named-nodes Mget n h g b =
+  named-nodes (Some Mget) n h g b =
       let i = after-count c.args in
       asked-several-nodes n (after_name c.args) [] (after-short c.args h) (omega arith) (unfold command_key as_simple in omega arith)
-  named-nodes JsonMget n h g b =
+  named-nodes (Some JsonMget) n h g b =
       let i = after-count c.args in
       let j = but-last-count (after_name c.args) in
       let s = after-short c.args h in

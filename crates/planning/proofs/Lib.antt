@@ -9,3 +9,4 @@ pub mod Order
 pub mod Passes
 pub mod Run
 pub mod Small
+pub mod KindsEqual

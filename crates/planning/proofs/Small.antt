@@ -1,5 +1,5 @@
 -- Lengths: the keys that a valid command asks for, and its command keys, are as short as a plan's rules want. Assumes nothing.
-use Rattle.std.specs.Prelude.{◌≡◌, refl, List, [], ◌∷◌, ◌++◌, ◌≤◌, length}
+use Rattle.std.specs.Prelude.{◌≡◌, refl, List, [], ◌∷◌, ◌++◌, ◌≤◌, length, Option, None, Some}
 use Rattle.std.proofs.Common.{arith, length-append}
 use Rattle.buffer.specs.Same.{Bytes}
 use Rattle.buffer.specs.Field.{le32}
@@ -7,7 +7,7 @@ use Rattle.config.specs.Limits.{max_argument}
 use Rattle.format.specs.Lists.{enc_all, All}
 use Rattle.commands.specs.MultiKey.{multi_key, single_name}
 use Rattle.commands.specs.declared.MultiKey.{MultiKey}
-use Rattle.commands.specs.declared.MultiKey.TheVariants.{None, Mget, JsonMget}
+use Rattle.commands.specs.declared.MultiKey.TheVariants.{Mget, JsonMget}
 use Rattle.call_record.specs.Record.{Argument, simple, cursor, ValidArgument, enc_argument}
 use Rattle.command_key.specs.Key.{command_key}
 use Rattle.planning.specs.Ask.{simples, after_name, but_last, last_only}
@@ -79,11 +79,11 @@ key-short (cursor ∷ l) =
     let i = key-short l in let k = length-append (enc_argument cursor) (enc_all enc_argument l) in omega arith
 
 -- `JSON.GET` is the longest of the names
-name-short : (k : MultiKey) → length (single_name k) ≤ 8
+name-short : (k : Option MultiKey) → length (single_name k) ≤ 8
 unfolding single_name
 name-short None = omega arith
-name-short Mget = omega arith
-name-short JsonMget = omega arith
+name-short (Some Mget) = omega arith
+name-short (Some JsonMget) = omega arith
 
 -- each of several keys with its command key
 pub parts-good : (n : Bytes) (path ks : List Bytes) → Short (command_key (as_simple path)) → All Short ks → All GoodWanted (part_keys n path ks)

@@ -1,7 +1,7 @@
 -- How far a command of a call record gets in planning, and which keys it then asks for: rules P1 to P7 of docs/BEHAVIOUR.md, in their order, after
 -- `get_cached_pipeline`. Assumes nothing: these are definitions.
 -- Letters: g settings, t clock, c command, n name, k key, x client expiry.
-use Rattle.std.specs.Prelude.{ℕ, ◌+◌, ◌^◌, Bool, true, false, cond, ◌||◌, List, [], ◌∷◌, eqb, leb, length}
+use Rattle.std.specs.Prelude.{ℕ, ◌+◌, ◌^◌, Bool, true, false, cond, ◌||◌, List, [], ◌∷◌, eqb, leb, length, Option, None, Some}
 use Rattle.buffer.specs.Same.{Bytes}
 use Rattle.config.specs.declared.CacheMode.{CacheMode}
 use Rattle.config.specs.declared.CacheMode.TheVariants.{All, OptIn}
@@ -9,7 +9,7 @@ use Rattle.config.specs.declared.Settings.{Settings}
 use Rattle.commands.specs.Names.{is_cacheable, takes_sole_key}
 use Rattle.commands.specs.MultiKey.{multi_key}
 use Rattle.commands.specs.declared.MultiKey.{MultiKey}
-use Rattle.commands.specs.declared.MultiKey.TheVariants.{None, Mget, JsonMget}
+use Rattle.commands.specs.declared.MultiKey.TheVariants.{Mget, JsonMget}
 use Rattle.call_record.specs.Record.{Argument, simple, cursor, Command, ignored, enable_cache, has_ttl}
 
 -- ---- How far a command gets
@@ -115,9 +115,9 @@ ask_several n (k ∷ ks) path x = several_keys n (k ∷ ks) path x
 
 -- by the name: `MGET` asks for everything behind it (rule P5), `JSON.MGET` too but for the last, its path (rule P6), any other cacheable name for its one
 -- key (rule P7)
-unfoldable pub ask_by : MultiKey → Bytes → List Argument → ℕ → Ask
-ask_by Mget n l x = ask_several n (after_name l) [] x
-ask_by JsonMget n l x = ask_several n (but_last (after_name l)) (last_only (after_name l)) x
+unfoldable pub ask_by : Option MultiKey → Bytes → List Argument → ℕ → Ask
+ask_by (Some Mget) n l x = ask_several n (after_name l) [] x
+ask_by (Some JsonMget) n l x = ask_several n (but_last (after_name l)) (last_only (after_name l)) x
 ask_by None n l x = cond (is_cacheable n) (ask_listed n l x) uncacheable
 
 -- by how far the command gets

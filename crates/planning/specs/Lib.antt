@@ -4,3 +4,4 @@ pub mod Sent
 pub mod Plan
 pub mod Planning
 pub mod Rules
+pub mod Kinds

@@ -1,5 +1,5 @@
 -- Names of several-key commands, and command keys as this code gathers them: they are planning's. Assumes nothing.
-use Rattle.std.specs.Prelude.{◌≡◌, refl, Bool, true, false, ◌++◌, ℕ}
+use Rattle.std.specs.Prelude.{◌≡◌, refl, Bool, true, false, ◌++◌, ℕ, Option, None, Some}
 use Rattle.std.proofs.Common.{sym, ap₂, ◌∙◌, arith}
 use Rattle.buffer.specs.Cases.{by_test}
 use Rattle.buffer.specs.Same.{Bytes, same}
@@ -7,7 +7,7 @@ use Rattle.buffer.specs.SameLaws.{same-eq}
 use Rattle.buffer.specs.Ascii.{ascii}
 use Rattle.commands.specs.MultiKey.{multi_key, single_name}
 use Rattle.commands.specs.declared.MultiKey.{MultiKey}
-use Rattle.commands.specs.declared.MultiKey.TheVariants.{None, Mget, JsonMget}
+use Rattle.commands.specs.declared.MultiKey.TheVariants.{Mget, JsonMget}
 use Rattle.cursor.specs.At.{range_bytes, command_of}
 use Rattle.cursor.specs.declared.Head.{Head}
 use Rattle.cursor.specs.declared.Range.{Range}
@@ -21,21 +21,21 @@ use Rattle.planning_ask.specs.declared.Several.{Several}
 -- ---- names
 
 -- of which command
-abbrev pub several_of : Bool → MultiKey
-several_of true = JsonMget
-several_of false = Mget
+abbrev pub several_of : Bool → Option MultiKey
+several_of true = Some JsonMget
+several_of false = Some Mget
 
 -- the name is the command's
 pub several-name : (n : Bytes) (json : Bool) → multi_key n ≡ several_of json → several_name json ≡ n
 unfolding multi_key several_name
 several-name n true q =
-    by_test (same n (ascii "MGET")) (λ t. let y : Mget ≡ JsonMget = rw t at q in let z : ◌≡◌ {A = ℕ} 0 1 = cc in absurd (omega arith))
+    by_test (same n (ascii "MGET")) (λ t. let y : Some Mget ≡ Some JsonMget = rw t at q in let z : ◌≡◌ {A = ℕ} 0 1 = cc in absurd (omega arith))
     (λ t. by_test (same n (ascii "JSON.MGET")) (λ u. sym (same-eq _ _ u))
-    (λ u. let y : None ≡ JsonMget = rw (t, u) at q in let z : ◌≡◌ {A = ℕ} 0 1 = cc in absurd (omega arith)))
+    (λ u. let y : None ≡ Some JsonMget = rw (t, u) at q in let z : ◌≡◌ {A = ℕ} 0 1 = cc in absurd (omega arith)))
 several-name n false q =
     by_test (same n (ascii "MGET")) (λ t. sym (same-eq _ _ t))
-    (λ t. by_test (same n (ascii "JSON.MGET")) (λ u. let y : JsonMget ≡ Mget = rw (t, u) at q in let z : ◌≡◌ {A = ℕ} 0 1 = cc in absurd (omega arith))
-    (λ u. let y : None ≡ Mget = rw (t, u) at q in let z : ◌≡◌ {A = ℕ} 0 1 = cc in absurd (omega arith)))
+    (λ t. by_test (same n (ascii "JSON.MGET")) (λ u. let y : Some JsonMget ≡ Some Mget = rw (t, u) at q in let z : ◌≡◌ {A = ℕ} 0 1 = cc in absurd (omega arith))
+    (λ u. let y : None ≡ Some Mget = rw (t, u) at q in let z : ◌≡◌ {A = ℕ} 0 1 = cc in absurd (omega arith)))
 
 -- what one of its keys is asked for by
 single-name : (json : Bool) → single_name (multi_key (several_name json)) ≡ key.name_bytes json

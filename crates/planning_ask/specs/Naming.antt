@@ -1,5 +1,5 @@
 -- What a command asks for, by its name and by how far it gets: one law for each path of the code. Assumes nothing.
-use Rattle.std.specs.Prelude.{◌≡◌, refl, Bool, ℕ, ◌+◌, ◌<◌, eqb, ltb, length}
+use Rattle.std.specs.Prelude.{◌≡◌, refl, Bool, ℕ, ◌+◌, ◌<◌, eqb, ltb, length, None}
 use Rattle.std.proofs.Common.{sym, ◌∙◌, arith}
 use Rattle.std.proofs.Math.Path.{ap, ap₂}
 use Rattle.std.proofs.Math.Bool.{true, false}
@@ -11,7 +11,6 @@ use Rattle.buffer.specs.Same.{Bytes}
 use Rattle.config.specs.declared.Settings.{Settings}
 use Rattle.commands.specs.Names.{is_cacheable}
 use Rattle.commands.specs.MultiKey.{multi_key}
-use Rattle.commands.specs.declared.MultiKey.TheVariants.{None}
 use Rattle.call_record.specs.Record.{Argument, Command}
 use Rattle.cursor.specs.At.{args_of}
 use Rattle.cursor.specs.Steps.{args_none}

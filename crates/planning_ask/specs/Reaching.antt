@@ -1,5 +1,5 @@
 -- How far a command gets, and cause 4: one law for each path of the code. Assumes nothing.
-use Rattle.std.specs.Prelude.{◌≡◌, refl, Bool, false, cond, List, [], ◌∷◌, ℕ, ◌+◌, ◌-◌, ◌^◌, ◌%◌, ◌<◌, ltb, leb, length}
+use Rattle.std.specs.Prelude.{◌≡◌, refl, Some, None, Bool, false, cond, List, [], ◌∷◌, ℕ, ◌+◌, ◌-◌, ◌^◌, ◌%◌, ◌<◌, ltb, leb, length}
 use Rattle.std.proofs.Common.{sym, ◌∙◌, arith, div-one}
 use Rattle.std.proofs.Math.Path.{ap}
 use Rattle.std.proofs.Math.Bool.{true}
@@ -11,9 +11,11 @@ use Rattle.config.specs.declared.CacheMode.{CacheMode}
 use Rattle.config.specs.declared.CacheMode.TheVariants.{All, OptIn}
 use Rattle.config.specs.declared.Settings.{Settings}
 use Rattle.call_record.specs.Record.{Argument, simple, cursor, Command, ignored}
-use Rattle.cursor.specs.At.{head_at, command_of, command_next, commands_at}
-use Rattle.cursor.specs.Steps.{commands-none, commands-more}
+use Rattle.cursor.specs.At.{command_of, commands_of, CommandsHere}
+use Rattle.cursor.specs.Steps.{command_step, command-stepped, command-stopped}
 use Rattle.cursor.specs.Index.{Text, none, text, arg_idx}
+use Rattle.cursor.specs.declared.Commands.{Commands}
+use Rattle.cursor.specs.declared.Head.{Head}
 use Rattle.planning.specs.Ask as plan
 use Rattle.planning_ask.specs.Asked.{reached_of, late}
 use Rattle.planning_ask.specs.Steps.{takes_part_by, ttl_by, late_by, HasName}
@@ -111,20 +113,19 @@ fits-time g t c n q h =
     let z : plan.past_end (plan.named n) (plan.client_expiry g t c) ≡ false = rw q at h in
     leb-false (2 ^ 64) (t + ttl_by c.flags c.ttl g.ttl) z
 
-module _ (g : Settings) (t : ℕ) (s : Bytes) (m n at : ℕ) where
+module _ (g : Settings) (t : ℕ) (s : Bytes) (k : Commands) (w : CommandsHere s k) where
   -- no command is left
-  pub late-none : m ≡ 0 → plan.any_late g t (commands_at s m at) ≡ false
+  pub late-none : command_step s k ≡ None → plan.any_late g t (commands_of s k) ≡ false
   unfolding plan.any_late
-  late-none q = rw (commands-none s m at q)
+  late-none q = rw (command-stopped s k w q)
 
-  module _ (q : m ≡ n + 1) where
+  module _ (h : Head) (r : Commands) (q : command_step s k ≡ Some (h, r)) where
     -- the first
-    pub late-here : late g t (command_of s (head_at s at)) ≡ true → plan.any_late g t (commands_at s m at) ≡ true
+    pub late-here : late g t (command_of s h) ≡ true → plan.any_late g t (commands_of s k) ≡ true
     unfolding plan.any_late
-    late-here h = rw (commands-more s m n at q, h)
+    late-here l = rw ((command-stepped s k h r w q).are, l)
 
     -- or one behind it
-    pub late-later : late g t (command_of s (head_at s at)) ≡ false
-        → plan.any_late g t (commands_at s m at) ≡ plan.any_late g t (commands_at s n (command_next s at))
+    pub late-later : late g t (command_of s h) ≡ false → plan.any_late g t (commands_of s k) ≡ plan.any_late g t (commands_of s r)
     unfolding plan.any_late
-    late-later h = rw (commands-more s m n at q, h)
+    late-later l = rw ((command-stepped s k h r w q).are, l)

@@ -1,5 +1,5 @@
 -- Simple arguments, one after the other, and the last one. Assumes nothing.
-use Rattle.std.specs.Prelude.{◌≡◌, refl, true, false, cond, ℕ, zero, suc, ◌+◌, ◌-◌, ◌≤◌, ◌<◌, eqb, length, get_or}
+use Rattle.std.specs.Prelude.{◌≡◌, refl, Some, None, true, false, cond, ℕ, zero, suc, ◌+◌, ◌-◌, ◌≤◌, ◌<◌, eqb, length, get_or}
 use Rattle.std.proofs.Math.Path.{sym, ap}
 use Rattle.std.proofs.Common.{ap₂, ◌∙◌, true≢false}
 use mathlib.Core.List.{List, [], ◌∷◌, append-nil}
@@ -11,83 +11,68 @@ use Rattle.buffer.specs.Cases.{by_test}
 use Rattle.buffer.specs.Same.{Bytes}
 use Rattle.buffer.specs.Part.{part}
 use Rattle.call_record.specs.Record.{Argument, simple, cursor}
-use Rattle.cursor.specs.At.{range_bytes, RangeIn, size_at, next_at, args_at, args_of, ArgIn, ArgsIn, ArgsHere}
-use Rattle.cursor.specs.Steps.{one_more, in_start, in-more, args_none, args_more, arg_next}
+use Rattle.cursor.specs.At.{range_bytes, RangeIn, args_of, ArgsHere}
+use Rattle.cursor.specs.Steps.{in_start, in-more, args_none, args_more, arg_next, Stepped}
 use Rattle.cursor.specs.Index.{Text, none, text, arg_idx}
+use Rattle.cursor.specs.declared.Arg.{Arg}
+use Rattle.cursor.specs.declared.Arg.TheVariants.{Simple, Cursor}
 use Rattle.cursor.specs.declared.Args.{Args}
+use Rattle.cursor.specs.declared.Range.{Range}
 use Rattle.command_key.specs.Key.{command_key}
 use Rattle.planning.specs.Ask as plan
 use Rattle.planning.specs.Outcome.{as_simple}
 use Rattle.planning_ask.specs.Asked.{simples_of, KeyStep}
-use Rattle.planning_ask.specs.Steps.{with_argument, last_in, Extracted, SeveralOf, HasName}
+use Rattle.planning_ask.specs.Steps.{simple_range, with_argument, last_in, Extracted, SeveralOf, HasName}
 use Rattle.planning_ask.specs.declared.SimpleArgs.{SimpleArgs}
 
--- the simple ones of the m arguments from `at` on
-abbrev pub simples_at : Bytes → ℕ → ℕ → List Bytes
-simples_at s m at = plan.simples (args_at s m at)
-
 -- no argument is left
-pub simples-none : (s : Bytes) (m at : ℕ) → m ≡ 0 → simples_at s m at ≡ []
+pub simples-none : (s : Bytes) (k : Args) → k.left ≡ 0 → simples_of s k ≡ []
 unfolding plan.simples
-simples-none s m at q = rw (args_none s m at q)
+simples-none s k q = rw (args_none s k.left k.at q)
 
--- where one is simple there is an argument
-pub some_left : (s : Bytes) (m at : ℕ) → 0 < length (simples_at s m at) → m ≡ m - 1 + 1
-some_left s m at h = one_more m (λ q. let z = ap length (simples-none s m at q) in omega arith)
-
-module _ (s : Bytes) (m n at : ℕ) (q : m ≡ n + 1) (w : ArgsIn s m at) where
-  -- a cursor is passed over; it has no bytes of its own
-  pub simples-cursor : (get_or s at 0 ≡ 0 → ⊥) → simples_at s m at ≡ simples_at s n (next_at s at)
+module _ (s : Bytes) (k r : Args) where
+  -- a cursor is passed over
+  pub simples-cursor : Stepped s k Cursor r → simples_of s k ≡ simples_of s r
   unfolding plan.simples
-  simples-cursor h = rw (args_more s m n at q, ne_eqb (get_or s at 0) 0 h)
-
-  pub cursor-ends : (get_or s at 0 ≡ 0 → ⊥) → next_at s at ≡ at + 5
-  cursor-ends h = let z = (in-more s m n at q w).0.empty (ne_eqb (get_or s at 0) 0 h) in omega arith
+  simples-cursor w = rw w.are
 
   -- a simple one is the first
-  pub simples-first : get_or s at 0 ≡ 0 → simples_at s m at ≡ part s (at + 5) (size_at s at) ∷ simples_at s n (next_at s at)
+  pub simples-first : (g : Range) → Stepped s k (Simple g) r → simples_of s k ≡ range_bytes s g ∷ simples_of s r
   unfolding plan.simples
-  simples-first h = rw (args_more s m n at q, eq-eqb (get_or s at 0) 0 h)
+  simples-first g w = rw w.are
 
 -- ---- the next one
 
--- a simple argument is among those from `at` on, and the first of them is the first from at₀ on
-pub record Ahead (s : Bytes) (m₀ at₀ m at : ℕ) : Type 0 where
-  pub here : ArgsIn s m at
-  pub some : 0 < length (simples_at s m at)
-  pub is : simples_at s m₀ at₀ ≡ simples_at s m at
+-- a simple argument is among those before k, and the first of them is the first before k₀
+pub record Ahead (s : Bytes) (k₀ k : Args) : Type 0 where
+  pub here : ArgsHere s k
+  pub some : 0 < length (simples_of s k)
+  pub is : simples_of s k₀ ≡ simples_of s k
 
-module _ (s : Bytes) (m₀ at₀ m at : ℕ) (w : Ahead s m₀ at₀ m at) where
-  pub ahead_more : m ≡ m - 1 + 1
-  ahead_more = some_left s m at w.some
+module _ (s : Bytes) (k₀ k : Args) (w : Ahead s k₀ k) where
+  -- so there is an argument
+  pub ahead_more : k.left ≡ 0 → ⊥
+  ahead_more q = let z = ap length (simples-none s k q) in let h = w.some in omega arith
 
-  pub ahead_in : ArgIn s at
-  ahead_in = (in-more s m (m - 1) at ahead_more w.here).0
+  module _ (a : Arg) (r : Args) (x : Stepped s k a r) where
+    -- a cursor is passed over
+    pub ahead-next : simple_range a ≡ None → Ahead s k₀ r
+    ahead-next q = go a q x
+      where
+        go : (a : Arg) → simple_range a ≡ None → Stepped s k a r → Ahead s k₀ r
+        go (Simple g) q x = let z : ◌≡◌ {A = ℕ} 0 1 = cc in absurd (omega arith)
+        go Cursor q x = let u = simples-cursor s k r x in record { here = x.here; some = rw u at w.some; is = w.is ∙ u }
 
-  -- a cursor is passed over
-  pub ahead-next : (get_or s at 0 ≡ 0 → ⊥) → Ahead s m₀ at₀ (m - 1) (at + 5)
-  ahead-next h =
-      let e = cursor-ends s m (m - 1) at ahead_more w.here h in
-      let u : simples_at s m at ≡ simples_at s (m - 1) (at + 5) =
-      simples-cursor s m (m - 1) at ahead_more w.here h ∙ ap (simples_at s (m - 1)) e in
-      record {
-        here = rw e at (in-more s m (m - 1) at ahead_more w.here).1;
-        some = rw u at w.some;
-        is = w.is ∙ u;
-      }
-
-  -- a simple one is the next
-  pub ahead-found : (end : ℕ) → get_or s at 0 ≡ 0 → end ≡ next_at s at
-      → KeyStep s (record { at = at₀; left = m₀ }) (record { key = record { start = at + 5; end = end }; rest = record { at = end; left = m - 1 } })
-  ahead-found end h e =
-      let i = in-more s m (m - 1) at ahead_more w.here in
-      let r = i.0.inside in
-      let z : end - (at + 5) ≡ size_at s at = omega arith in
-      record {
-        is = w.is ∙ simples-first s m (m - 1) at ahead_more w.here h ∙ sym (ap₂ (λ (x : ℕ) (y : ℕ). part s (at + 5) x ∷ simples_at s (m - 1) y) z e);
-        inside = (omega arith, omega arith);
-        here = rw e i.1;
-      }
+    -- a simple one is the next
+    pub ahead-found : (g : Range) → simple_range a ≡ Some g → KeyStep s k₀ (record { key = g; rest = r })
+    ahead-found g q = go a q x
+      where
+        go : (a : Arg) → simple_range a ≡ Some g → Stepped s k a r → KeyStep s k₀ (record { key = g; rest = r })
+        go (Simple d) q x =
+            let e : d ≡ g = cc in
+            let y : KeyStep s k₀ (record { key = d; rest = r }) = record { is = w.is ∙ simples-first s k r d x; inside = x.inside; here = x.here } in
+            rw e at y
+        go Cursor q x = let z : ◌≡◌ {A = ℕ} 0 1 = cc in absurd (omega arith)
 
 -- ---- the last
 
@@ -106,61 +91,53 @@ unfolding last_behind plan.last_only
 last-next a b [] = refl
 last-next a b (d ∷ l) = refl
 
--- what was found of the arguments from at₀ on, when those from `at` on are left
-pub record Found (s : Bytes) (m₀ at₀ m at : ℕ) (f : SimpleArgs) : Type 0 where
-  pub here : ArgsIn s m at
-  pub count : f.count + length (simples_at s m at) ≡ length (simples_at s m₀ at₀)
-  pub last : plan.last_only (simples_at s m₀ at₀) ≡ last_behind (last_in s f) (simples_at s m at)
+-- what was found of the arguments before k₀, when those before k are left
+pub record Found (s : Bytes) (k₀ k : Args) (f : SimpleArgs) : Type 0 where
+  pub here : ArgsHere s k
+  pub count : f.count + length (simples_of s k) ≡ length (simples_of s k₀)
+  pub last : plan.last_only (simples_of s k₀) ≡ last_behind (last_in s f) (simples_of s k)
   pub inside : RangeIn s f.last
-  pub before : f.count ≤ at
+  pub before : f.count ≤ k.at
 
 -- at the start
-pub found-start : (s : Bytes) (m at : ℕ) → ArgsIn s m at → at ≤ length s → Found s m at m at (record { count = 0; last = record { start = at; end = at } })
-found-start s m at w h =
-    record { here = w; count = omega arith; last = last-all (simples_at s m at); inside = (omega arith, h); before = omega arith }
+pub found-start : (s : Bytes) (k : Args) → ArgsHere s k → Found s k k (record { count = 0; last = record { start = k.at; end = k.at } })
+found-start s k w =
+    let h = in_start s k.left k.at w in
+    record { here = w; count = omega arith; last = last-all (simples_of s k); inside = (omega arith, h); before = omega arith }
 
 -- one further
-pub found-next : (s : Bytes) (m₀ at₀ m n at end : ℕ) (f : SimpleArgs) → m ≡ n + 1 → end ≡ next_at s at → Found s m₀ at₀ m at f
-    → Found s m₀ at₀ n end (with_argument f (get_or s at 0) (at + 5) end)
-found-next s m₀ at₀ m n at end f q e w =
-    let i = in-more s m n at q w.here in
-    let r = i.0.inside in
+pub found-next : (s : Bytes) (k₀ k : Args) (a : Arg) (r : Args) (f : SimpleArgs) → Stepped s k a r → Found s k₀ k f → Found s k₀ r (with_argument f a)
+found-next s k₀ k (Simple g) r f x w =
+    let u = simples-first s k r g x in
+    let l = ap length u in
+    let e = x.ends in
     let c = w.count in
     let b = w.before in
-    let l = w.last in
-    let h : ArgsIn s n end = rw e i.1 in
-    by_test (eqb (get_or s at 0) 0)
-    (λ t.
-    let u = simples-first s m n at q w.here (eqb-true _ _ t) in
-    let x = ap length u in
-    let z : end - (at + 5) ≡ size_at s at = omega arith in
-    let y : last_behind (cond (eqb (f.count + 1) 0) [] (part s (at + 5) (end - (at + 5)) ∷ [])) (simples_at s n end)
-    ≡ last_behind (part s (at + 5) (size_at s at) ∷ []) (simples_at s n (next_at s at)) = rw (ne_eqb (f.count + 1) 0 (λ y. omega arith), z, e) in
-    rw t
-    (record {
-      here = h;
-      count = rw e (omega arith);
-      last = l ∙ ap (last_behind (last_in s f)) u ∙ last-next (last_in s f) (part s (at + 5) (size_at s at)) (simples_at s n (next_at s at)) ∙ sym y;
-      inside = (omega arith, omega arith);
+    record {
+      here = x.here;
+      count = omega arith;
+      last = w.last ∙ ap (last_behind (last_in s f)) u ∙ last-next (last_in s f) (range_bytes s g) (simples_of s r)
+          ∙ rw (ne_eqb (f.count + 1) 0 (λ y. omega arith)) refl;
+      inside = x.inside;
       before = omega arith;
-    }))
-    (λ t.
-    let u = simples-cursor s m n at q w.here (λ y. true≢false (sym (eq-eqb _ _ y) ∙ t)) in
-    let x = ap length u in
-    rw t
-    (record {
-      here = h;
-      count = rw e (omega arith);
-      last = l ∙ ap (last_behind (last_in s f)) u ∙ ap (λ (z : ℕ). last_behind (last_in s f) (simples_at s n z)) (sym e);
+    }
+found-next s k₀ k Cursor r f x w =
+    let u = simples-cursor s k r x in
+    let e = x.ends in
+    let b = w.before in
+    record {
+      here = x.here;
+      count = ap (λ (l : List Bytes). f.count + length l) (sym u) ∙ w.count;
+      last = w.last ∙ ap (last_behind (last_in s f)) u;
       inside = w.inside;
       before = omega arith;
-    }))
+    }
 
 -- at the end
-pub found-end : (s : Bytes) (k : Args) (m at : ℕ) (f : SimpleArgs) → m ≡ 0 → Found s k.left k.at m at f → Extracted s k f
+pub found-end : (s : Bytes) (k₀ k : Args) (f : SimpleArgs) → k.left ≡ 0 → Found s k₀ k f → Extracted s k₀ f
 unfolding last_behind
-found-end s k m at f q w =
-    let z = simples-none s m at q in
+found-end s k₀ k f q w =
+    let z = simples-none s k q in
     record {
       count = let c = w.count in let l = ap length z in omega arith;
       last = w.last ∙ ap (last_behind (last_in s f)) z;

@@ -1,12 +1,15 @@
 -- What the smaller functions answer, and the laws that tie it to planning's definitions, one for each path of the code. Assumes nothing.
-use Rattle.std.specs.Prelude.{◌≡◌, Bool, true, false, cond, List, [], ◌∷◌, ℕ, ◌+◌, ◌^◌, ◌<◌, eqb, leb, length}
+use Rattle.std.specs.Prelude.{◌≡◌, Option, Some, None, Bool, true, false, cond, List, [], ◌∷◌, ℕ, ◌+◌, ◌^◌, ◌<◌, eqb, leb, length}
 use Rattle.buffer.specs.Same.{Bytes}
 use Rattle.config.specs.declared.CacheMode.{CacheMode}
 use Rattle.config.specs.declared.CacheMode.TheVariants.{All, OptIn}
 use Rattle.commands.specs.MultiKey.{multi_key}
 use Rattle.call_record.specs.Record.{Argument, simple, cursor, bit}
 use Rattle.cursor.specs.At.{range_bytes, RangeIn}
+use Rattle.cursor.specs.declared.Arg.{Arg}
+use Rattle.cursor.specs.declared.Arg.TheVariants.{Simple, Cursor}
 use Rattle.cursor.specs.declared.Args.{Args}
+use Rattle.cursor.specs.declared.Range.{Range}
 use Rattle.planning.specs.Ask as plan
 use Rattle.planning_ask.specs.Asked.{simples_of, keys_in, path_in, SeveralIn}
 use Rattle.planning_ask.specs.declared.Reached.{Reached}
@@ -33,9 +36,15 @@ late_by Skipped x = false
 late_by Stopped x = false
 late_by (Named n) x = leb (2 ^ 64) x
 
+-- a simple argument's range
+abbrev pub simple_range : Arg → Option Range
+simple_range (Simple g) = Some g
+simple_range Cursor = None
+
 -- one argument more
-abbrev pub with_argument : SimpleArgs → ℕ → ℕ → ℕ → SimpleArgs
-with_argument f kind start end = cond (eqb kind 0) (record { count = f.count + 1; last = record { start = start; end = end } }) f
+abbrev pub with_argument : SimpleArgs → Arg → SimpleArgs
+with_argument f (Simple g) = record { count = f.count + 1; last = g }
+with_argument f Cursor = f
 
 -- the last one alone, of those found
 abbrev pub last_in : Bytes → SimpleArgs → List Bytes

@@ -7,13 +7,14 @@ ghost use Rattle.cursor.specs.At.{range_bytes, RangeIn, args_of, ArgsHere, comma
 ghost use Rattle.cursor.specs.Steps.{arg_next};
 ghost use Rattle.planning.specs.Ask as plan;
 ghost use Rattle.planning_ask.specs.Asked.{reached_of, ReachedIn, late, OnTime, simples_of, KeyStep, asked_of, AskedIn};
-ghost use Rattle.planning_ask.specs.Steps.{takes_part_by, ttl_by, late_by, with_argument, Extracted, SeveralOf, asked_several, HasName, ask_named};
+ghost use Rattle.planning_ask.specs.Steps.{takes_part_by, ttl_by, late_by, simple_range, with_argument, Extracted, SeveralOf, asked_several, HasName, ask_named};
 
 use commands::MultiKey;
 use config::{CacheMode, Settings};
-use cursor::{ArgAt, Args, Commands, Head, Range};
+use cursor::{Arg, Args, Commands, Head, Range};
 
 // How far a command gets: it is ignored; it is stopped as not cacheable; or it has this name.
+// Kept: no plainer as an Option or a Result, since there are three answers, and none of them is a failure.
 #[derive(Clone, Copy)]
 pub enum Reached {
     Skipped,
@@ -75,8 +76,8 @@ pub fn reach(bytes: &[u8], head: Head, mode: CacheMode) -> Reached
     }
     if takes_part(mode, flags) {
         match cursor::arg_idx(bytes, args, 0) {
-            ArgAt::Found(n) => Reached::Named(n),
-            ArgAt::NotThere => Reached::Stopped,
+            Some(n) => Reached::Named(n),
+            None => Reached::Stopped,
         }
     } else {
         Reached::Stopped
@@ -116,15 +117,12 @@ pub fn any_late(bytes: &[u8], k: Commands, g: Settings, clock: u64) -> bool
     requires { CommandsHere bytes.now k }
     ensures { result ≡ plan.any_late g clock (commands_of bytes.now k) }
 {
-    let mut at = k.at;
-    let mut left = k.left;
-    while left > 0 {
-        let head = cursor::head_at(bytes, at);
+    let mut k = k;
+    while let Some((head, rest)) = cursor::next_command(bytes, k) {
         if is_late(bytes, head, g, clock) {
             return true;
         }
-        at = cursor::args_end(bytes, head.args);
-        left -= 1;
+        k = rest;
     }
     false
 }
@@ -137,46 +135,42 @@ fn calculate_expiration_time(head: Head, g: Settings, clock: u64) -> u64
     clock + client_ttl(head.flags, head.ttl, g.ttl)
 }
 
-// The next simple argument. A cursor has no bytes of its own.
+// A simple argument's range: a cursor has no bytes of its own.
+fn simple(arg: Arg) -> Option<Range>
+    ensures { result ≡ simple_range arg }
+{
+    match arg {
+        Arg::Simple(g) => Some(g),
+        Arg::Cursor => None,
+    }
+}
+
+// The next simple argument.
 pub fn next_key(bytes: &[u8], k: Args) -> KeyAt
     requires { ArgsHere bytes.now k × (0 < length (simples_of bytes.now k)) }
     ensures { KeyStep bytes.now k result }
 {
-    let mut at = k.at;
-    let mut left = k.left;
-    while bytes[at] != 0 {
-        at += 5;
-        left -= 1;
-    }
-    let start = at + 5;
-    let end = start + buffer::read_u32(bytes, at + 1) as usize;
-    KeyAt {
-        key: Range {
-            start: start,
-            end: end,
-        },
-        rest: Args {
-            at: end,
-            left: left - 1,
-        },
+    let mut k = k;
+    loop {
+        let (arg, rest) = cursor::next_arg(bytes, k).unwrap();
+        if let Some(key) = simple(arg) {
+            return KeyAt { key, rest };
+        }
+        k = rest;
     }
 }
 
-// With one argument more, of that kind and range.
-fn with_argument(found: SimpleArgs, kind: u8, start: usize, end: usize) -> SimpleArgs
+// With one argument more.
+fn with_argument(found: SimpleArgs, arg: Arg) -> SimpleArgs
     requires { found.count + 1 < 2 ^ 64 }
-    ensures { result ≡ with_argument found kind start end }
+    ensures { result ≡ with_argument found arg }
 {
-    if kind == 0 {
-        SimpleArgs {
+    match simple(arg) {
+        Some(last) => SimpleArgs {
             count: found.count + 1,
-            last: Range {
-                start: start,
-                end: end,
-            },
-        }
-    } else {
-        found
+            last,
+        },
+        None => found,
     }
 }
 
@@ -185,18 +179,15 @@ fn extract_simple_arguments(bytes: &[u8], k: Args) -> SimpleArgs
     requires { ArgsHere bytes.now k }
     ensures { Extracted bytes.now k result }
 {
-    let mut at = k.at;
-    let mut left = k.left;
     let mut found = SimpleArgs {
         count: 0,
-        last: Range { start: at, end: at },
+        last: Range {
+            start: k.at,
+            end: k.at,
+        },
     };
-    while left > 0 {
-        let start = at + 5;
-        let end = start + buffer::read_u32(bytes, at + 1) as usize;
-        found = with_argument(found, bytes[at], start, end);
-        at = end;
-        left -= 1;
+    for arg in cursor::args_iter(bytes, k) {
+        found = with_argument(found, arg);
     }
     found
 }
@@ -206,11 +197,8 @@ fn behind_name(bytes: &[u8], k: Args) -> Args
     requires { ArgsHere bytes.now k × (0 < k.left) }
     ensures { result ≡ arg_next bytes.now k }
 {
-    let at = k.at;
-    Args {
-        at: at + 5 + buffer::read_u32(bytes, at + 1) as usize,
-        left: k.left - 1,
-    }
+    let (_, rest) = cursor::next_arg(bytes, k).unwrap();
+    rest
 }
 
 // Several keys, of arguments whose first is the name.
@@ -255,8 +243,8 @@ fn ask_one(bytes: &[u8], k: Args, expiry: u64) -> Asked
     ensures { (asked_of bytes.now result ≡ plan.ask_one (args_of bytes.now k) expiry) × AskedIn bytes.now result }
 {
     match cursor::arg_idx(bytes, k, 1) {
-        ArgAt::Found(key) => Asked::OneKey(key, expiry),
-        ArgAt::NotThere => Asked::Uncacheable,
+        Some(key) => Asked::OneKey(key, expiry),
+        None => Asked::Uncacheable,
     }
 }
 
@@ -288,9 +276,9 @@ fn ask_named(bytes: &[u8], k: Args, name: Range, expiry: u64) -> Asked
 {
     let text = cursor::bytes_in(bytes, name);
     match commands::is_multi_key(text) {
-        MultiKey::Mget => ask_several(several_of(bytes, k, false), expiry),
-        MultiKey::JsonMget => ask_several(several_of(bytes, k, true), expiry),
-        MultiKey::None => {
+        Some(MultiKey::Mget) => ask_several(several_of(bytes, k, false), expiry),
+        Some(MultiKey::JsonMget) => ask_several(several_of(bytes, k, true), expiry),
+        None => {
             if commands::is_cachable_cmd(text) {
                 if may_have(text, k.left) {
                     ask_one(bytes, k, expiry)

@@ -1,5 +1,5 @@
 -- The walk of the dry pass over the commands: what is left is the whole. Assumes nothing.
-use Rattle.std.specs.Prelude.{◌≡◌, refl, Bool, true, false, ◌||◌, ◌∷◌, ◌++◌, ℕ, zero, suc, ◌+◌, ◌≤◌, length}
+use Rattle.std.specs.Prelude.{◌≡◌, refl, Bool, true, false, ◌||◌, Option, is_none, ◌∷◌, ◌++◌, ℕ, zero, suc, ◌+◌, ◌≤◌, length}
 use Rattle.std.proofs.Math.Path.{sym, ap}
 use Rattle.std.proofs.Common.{ap₂, ◌∙◌, true≢false, arith, length-append}
 use Rattle.buffer.specs.Same.{Bytes}
@@ -21,7 +21,6 @@ use Rattle.planning_outcome.specs.Sizes.{nodes_for, sent_for, all_nodes, all_sen
 use Rattle.planning_send.specs.Sends.{sent_as}
 use Rattle.planning_dry_pass.specs.Size.{SizedAs}
 use Rattle.room.specs.Room.{spent, spent-none, spent-more}
-use Rattle.room.specs.declared.Room.{Room}
 use Rattle.planning_dry_pass.specs.declared.Size.{Size}
 
 -- ---- commands that may be planned: they lie inside, are valid, and none is late
@@ -88,7 +87,7 @@ sized-is g rows t e c o z q w =
     }
 
 -- the rooms p and q, with the commands from `at` on still to be taken, come to what they were at the start, with all of them
-pub record Walked (g : Settings) (a s : Bytes) (t e : ℕ) (m₀ at₀ : ℕ) (p₀ q₀ : Room) (m at : ℕ) (p q : Room) : Type 0 where
+pub record Walked (g : Settings) (a s : Bytes) (t e : ℕ) (m₀ at₀ : ℕ) (p₀ q₀ : Option ℕ) (m at : ℕ) (p q : Option ℕ) : Type 0 where
   pub ahead : Planable g t s m at
   pub plan : (rows : ℕ → Row) → Lent g a rows
       → spent p₀ (length (all_nodes (setup_now g) rows t e (ask g t) (commands_at s m₀ at₀))) ≡ spent p
@@ -97,12 +96,12 @@ pub record Walked (g : Settings) (a s : Bytes) (t e : ℕ) (m₀ at₀ : ℕ) (p
       → spent q₀ (length (all_sent (setup_now g) rows t e (ask g t) g.mode (commands_at s m₀ at₀))) ≡ spent q
       (length (all_sent (setup_now g) rows t e (ask g t) g.mode (commands_at s m at)))
 
-module _ (g : Settings) (a s : Bytes) (t e m₀ at₀ : ℕ) (p₀ q₀ : Room) where
+module _ (g : Settings) (a s : Bytes) (t e m₀ at₀ : ℕ) (p₀ q₀ : Option ℕ) where
   pub walked_start : Planable g t s m₀ at₀ → Walked g a s t e m₀ at₀ p₀ q₀ m₀ at₀ p₀ q₀
   walked_start w = record { ahead = w; plan = λ rows o. refl; send = λ rows o. refl }
 
   -- one command further
-  pub walked_next : (m n at x : ℕ) (p q : Room) (h : Head) (z : Size) → m ≡ n + 1 → h ≡ head_at s at → x ≡ command_next s at
+  pub walked_next : (m n at x : ℕ) (p q : Option ℕ) (h : Head) (z : Size) → m ≡ n + 1 → h ≡ head_at s at → x ≡ command_next s at
       → ((rows : ℕ → Row) → Lent g a rows → SizeIs g rows t e (command_of s h) z)
       → Walked g a s t e m₀ at₀ p₀ q₀ m at p q → Walked g a s t e m₀ at₀ p₀ q₀ n x (spent p z.plan) (spent q z.send)
   unfolding all_nodes all_sent
@@ -126,13 +125,13 @@ module _ (g : Settings) (a s : Bytes) (t e m₀ at₀ : ℕ) (p₀ q₀ : Room) 
       }
 
   -- none is left
-  pub walked_end : (m at : ℕ) (p q : Room) → m ≡ 0 → Walked g a s t e m₀ at₀ p₀ q₀ m at p q → (rows : ℕ → Row) → Lent g a rows
-      → (p.short || q.short)
-      ≡ ((spent p₀ (length (all_nodes (setup_now g) rows t e (ask g t) (commands_at s m₀ at₀)))).short || (spent q₀
-      (length (all_sent (setup_now g) rows t e (ask g t) g.mode (commands_at s m₀ at₀)))).short)
+  pub walked_end : (m at : ℕ) (p q : Option ℕ) → m ≡ 0 → Walked g a s t e m₀ at₀ p₀ q₀ m at p q → (rows : ℕ → Row) → Lent g a rows
+      → (is_none p || is_none q)
+      ≡ (is_none (spent p₀ (length (all_nodes (setup_now g) rows t e (ask g t) (commands_at s m₀ at₀)))) || is_none (spent q₀
+      (length (all_sent (setup_now g) rows t e (ask g t) g.mode (commands_at s m₀ at₀)))))
   unfolding all_nodes all_sent
   walked_end m at p q z w rows o =
       let c = commands-none s m at z in
       let a : spent p (length (all_nodes (setup_now g) rows t e (ask g t) (commands_at s m at))) ≡ p = rw c (spent-none p 0 refl) in
       let b : spent q (length (all_sent (setup_now g) rows t e (ask g t) g.mode (commands_at s m at))) ≡ q = rw c (spent-none q 0 refl) in
-      sym (ap₂ (λ (x : Room) (y : Room). x.short || y.short) (w.plan rows o ∙ a) (w.send rows o ∙ b))
+      sym (ap₂ (λ (x : Option ℕ) (y : Option ℕ). is_none x || is_none y) (w.plan rows o ∙ a) (w.send rows o ∙ b))

@@ -3,7 +3,7 @@
 // `seen` is a filter of keys that tells of the arena (crate key_filter): a key that it says is absent is not searched for.
 #![tactic(auto)]
 
-ghost use Rattle.std.specs.Prelude.{◌≡◌, ◌||◌, ℕ, ◌≤◌, length};
+ghost use Rattle.std.specs.Prelude.{◌≡◌, ◌||◌, is_none, ℕ, ◌≤◌, length};
 ghost use Rattle.config.specs.Limits.{max_bytes, max_arguments};
 ghost use Rattle.config.specs.declared.CacheMode.{CacheMode};
 ghost use Rattle.call_record.specs.Record.{Command};
@@ -24,7 +24,6 @@ use command_key::CommandKey;
 use config::{Now, Settings};
 use cursor::{Commands, Head, Range};
 use planning_ask::{Asked, Several};
-use room::Room;
 use shard_lookup::Looked;
 
 // The bytes that a command takes in the plan and in what is sent.
@@ -161,27 +160,25 @@ pub fn dry_pass(
     arena: &[u8],
     g: Settings,
     when: Now,
-    plan: Room,
-    send: Room,
+    plan: Option<usize>,
+    send: Option<usize>,
     seen: &[u64],
 ) -> bool
     requires { Planable g when.clock bytes.now k.left k.at × (length bytes.now ≤ max_bytes) × Filtered g arena.now seen.now }
     ensures { (rows : ℕ → Row) → Lent g arena.now rows
-        → result ≡ ((spent plan (length (all_nodes (setup_now g) rows when.clock when.epoch (ask g when.clock)
-        (commands_of bytes.now k)))).short || (spent send
-        (length (all_sent (setup_now g) rows when.clock when.epoch (ask g when.clock) g.mode (commands_of bytes.now k)))).short) }
+        → result ≡ (is_none (spent plan (length (all_nodes (setup_now g) rows when.clock when.epoch (ask g when.clock)
+        (commands_of bytes.now k)))) || is_none (spent send
+        (length (all_sent (setup_now g) rows when.clock when.epoch (ask g when.clock) g.mode (commands_of bytes.now k))))) }
 {
     let mut at = k.at;
-    let mut left = k.left;
     let mut p = plan;
     let mut q = send;
-    while left > 0 {
+    for _ in 0..k.left {
         let head = cursor::head_at(bytes, at);
         let size = size_by(bytes, head, arena, g, when, seen);
         p = room::spend(p, size.plan);
         q = room::spend(q, size.send);
         at = cursor::args_end(bytes, head.args);
-        left -= 1;
     }
-    p.short || q.short
+    p.is_none() || q.is_none()
 }

@@ -26,7 +26,7 @@ use command_key::CommandKey;
 use config::{Now, Settings};
 use cursor::{Head, Range};
 use plan_write::write_missing;
-use planning::{NODE_MISSING, NODE_WAITING};
+use planning::NodeKind;
 use planning_ask::{Asked, Several};
 use planning_outcome::{CacheableCommand, CachingResult, PrepCacheItem, Served};
 use shard_lookup::Looked;
@@ -84,7 +84,7 @@ fn write_place(
         Looked::Miss(_) => {
             let text = cursor::bytes_in(bytes, key);
             Written {
-                to: write_missing(plan, x.to, NODE_WAITING, text, bytes, command, expiry),
+                to: write_missing(plan, x.to, NodeKind::Waiting, text, bytes, command, expiry),
                 missing: x.missing + 1,
                 counts: counts,
             }
@@ -111,14 +111,12 @@ fn write_places(
         plan.new result }
 {
     let mut k = v.args;
-    let mut left = v.keys;
     let mut y = x;
-    while left > 0 {
+    for _ in 0..v.keys {
         let here = planning_ask::next_key(bytes, k);
         let key = here.key;
         y = write_place(plan, arena, bytes, v, key, expiry, g, when, y, seen);
         k = here.rest;
-        left -= 1;
     }
     y
 }
@@ -153,7 +151,7 @@ fn write_several(
     let x = write_places(plan, arena, bytes, v, expiry, g, when, first, seen);
     let after = x.counts;
     if x.missing == 0 {
-        plan_write::write_bare(plan, to, planning::NODE_ALL_SERVED, v.keys as u64);
+        plan_write::write_bare(plan, to, NodeKind::AllServed, v.keys as u64);
         Prepared {
             result: CachingResult::Item(PrepCacheItem::Cached(Served::Values(v))),
             places: start,
@@ -161,8 +159,8 @@ fn write_several(
             counts: after,
         }
     } else {
-        plan_write::write_bare(plan, to, planning::NODE_SEVERAL, v.keys as u64);
-        let end = plan_write::write_bare(plan, x.to, planning::NODE_END, 0);
+        plan_write::write_bare(plan, to, NodeKind::Several, v.keys as u64);
+        let end = plan_write::write_bare(plan, x.to, NodeKind::End, 0);
         Prepared {
             result: CachingResult::Item(PrepCacheItem::NotCached(CacheableCommand::Multiple(
                 v, x.missing, expiry,
@@ -225,7 +223,7 @@ fn write_one(
                     key, expiry,
                 ))),
                 places: to,
-                to: write_missing(plan, to, NODE_MISSING, text, bytes, command, expiry),
+                to: write_missing(plan, to, NodeKind::Missing, text, bytes, command, expiry),
                 counts: after,
             }
         }
@@ -259,13 +257,13 @@ pub fn get_cached_cmd(
         Asked::Nothing => Prepared {
             result: CachingResult::Ignored,
             places: to,
-            to: plan_write::write_bare(plan, to, planning::NODE_HAND_ON, 0),
+            to: plan_write::write_bare(plan, to, NodeKind::HandOn, 0),
             counts: counts,
         },
         Asked::Uncacheable => Prepared {
             result: CachingResult::Item(PrepCacheItem::NotCacheable),
             places: to,
-            to: plan_write::write_bare(plan, to, planning::NODE_HAND_ON, 0),
+            to: plan_write::write_bare(plan, to, NodeKind::HandOn, 0),
             counts: counts,
         },
         Asked::OneKey(key, expiry) => write_one(

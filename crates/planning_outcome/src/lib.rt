@@ -20,12 +20,14 @@ use planning_ask::Several;
 use shard_lookup::Looked;
 
 // The outcome of a command; an ignored one has none.
+// Kept: that planning's outcome is `CachingResult` over `PrepCacheItem` over `CacheableCommand` is a rule of the project; the names are redis-rs's.
 #[derive(Clone, Copy)]
 pub enum CachingResult {
     Item(PrepCacheItem),
     Ignored,
 }
 
+// Kept: as above.
 #[derive(Clone, Copy)]
 pub enum PrepCacheItem {
     Cached(Served),

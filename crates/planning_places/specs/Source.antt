@@ -1,8 +1,8 @@
 -- Where the keys that wait are read from: the nodes of the places that stand in a plan, of which served ones are passed over; or, where every key waits, the
 -- record itself. Assumes nothing.
 -- Letters: s the bytes read, at a node's place, n how many places, ps places, x client expiry, r what follows, f where they are read from.
-use Rattle.std.specs.Prelude.{◌≡◌, refl, Bool, true, false, cond, List, [], ◌∷◌, ◌++◌, ℕ, zero, suc, ◌+◌, ◌-◌, ◌^◌, ◌≤◌, ◌<◌, length, take, drop, eqb}
-use Rattle.std.proofs.Common.{sym, ap, ap₂, ◌∙◌, append_assoc, arith, add-one}
+use Rattle.std.specs.Prelude.{◌≡◌, refl, cond, Option, None, Some, Ok, List, [], ◌∷◌, ◌++◌, ℕ, zero, suc, ◌+◌, ◌-◌, ◌^◌, ◌≤◌, ◌<◌, length, take, drop, eqb}
+use Rattle.std.proofs.Common.{sym, ap, ap₂, ◌∙◌, append_assoc, arith, add-one, ne_eqb}
 use Rattle.buffer.specs.Same.{Bytes}
 use Rattle.buffer.specs.Field.{read32}
 use Rattle.buffer.specs.Part.{part}
@@ -10,10 +10,13 @@ use Rattle.buffer.specs.Copied.{Copied, copied_next, copied-room, copied-done, c
 use Rattle.format.specs.Lists.{enc_all, All}
 use Rattle.cursor.specs.At.{range_bytes, RangeIn, ArgsHere}
 use Rattle.cursor.specs.declared.Args.{Args}
+use Rattle.cursor.specs.declared.Range.{Range}
 use Rattle.cmd.specs.Pack.{packed, blob, pttl_texts}
 use Rattle.cmd.specs.Laws.{Wrote}
 use Rattle.planning.specs.Outcome.{Place, filled, waiting, missing}
 use Rattle.planning.specs.Sent.{keys_of}
+use Rattle.planning.specs.Kinds.{kind_of_number, kind_found, kind_is}
+use Rattle.planning.specs.declared.NodeKind.TheVariants.{Served}
 use Rattle.planning.specs.Plan.{place_nodes, node_bytes, enc_node, node_head_size, served_kind, waiting_kind}
 use Rattle.plan.specs.Head.{end_at, head_at, HeadIn}
 use Rattle.plan.specs.Node.{FitsNode}
@@ -52,23 +55,44 @@ KeysIn s (Keys k) n = ArgsHere s k × (n ≤ length (simples_of s k))
 
 -- ---- one place
 
+-- a place's key lies inside, if it waits
+abbrev pub PlaceIn : Bytes → Option Range → Type 0
+PlaceIn s None = Unit {0}
+PlaceIn s (Some key) = RangeIn s key
+
+-- and stands before the others
+abbrev pub key_before : Bytes → Option Range → List Bytes → List Bytes
+key_before s None ks = ks
+key_before s (Some key) ks = range_bytes s key ∷ ks
+
 -- the next place, of n + 1: its key, if it waits, and where the others are read from
 pub record Step (s : Bytes) (f : Source) (n : ℕ) (r : PlaceAt) : Type 0 where
-  pub keys : keys_at s f (suc n) ≡ cond r.served (keys_at s r.rest n) (range_bytes s r.key ∷ keys_at s r.rest n)
-  pub inside : RangeIn s r.key
+  pub keys : keys_at s f (suc n) ≡ key_before s r.key (keys_at s r.rest n)
+  pub inside : PlaceIn s r.key
   pub others : KeysIn s r.rest n
 
--- a node
-pub node-step : (s : Bytes) (f : Source) (at n : ℕ) (h : NodeHead) → f ≡ Nodes at → h ≡ head_at s at → KeysIn s f (suc n)
-    → Step s f n (record { served = eqb h.kind served_kind; key = record { start = h.first; end = h.second }; rest = Nodes h.end })
-unfolding keys_at KeysIn node_keys NodesIn head_at
-node-step s f at n h q e w =
-    let z : at + 20 + read32 s (at + 4) - (at + 20) ≡ read32 s (at + 4) = omega arith in
-    rw (q, e) (record {
-      keys = ap (λ (l : ℕ). cond (eqb (read32 s at) served_kind) (node_keys s n (end_at s at)) (part s (at + 20) l ∷ node_keys s n (end_at s at))) (sym z);
-      inside = (omega arith, let b : end_at s at ≤ length s = (rw q at w).0.1 in omega arith);
-      others = (rw q at w).1;
-    })
+-- a node: what is read of it, by its kind
+module _ (s : Bytes) (f : Source) (at n : ℕ) (h : NodeHead) (q : f ≡ Nodes at) (e : h ≡ head_at s at) (w : KeysIn s f (suc n)) where
+  others_in : KeysIn s (Nodes h.end) n
+  unfolding KeysIn NodesIn head_at
+  others_in = rw e (rw q at w).1
+
+  pub served-step : h.kind ≡ Ok Served → Step s f n (record { key = None; rest = Nodes h.end })
+  unfolding keys_at node_keys head_at
+  served-step k =
+      let z : read32 s at ≡ served_kind = kind_is (read32 s at) Served (ap (λ (x : NodeHead). x.kind) (sym e) ∙ k) in
+      record { keys = rw (q, e, z); inside = tt; others = others_in }
+
+  pub waiting-step : (h.kind ≡ Ok Served → ⊥) → Step s f n (record { key = Some (record { start = h.first; end = h.second }); rest = Nodes h.end })
+  unfolding keys_at KeysIn node_keys NodesIn head_at
+  waiting-step k =
+      let y : read32 s at ≡ served_kind → ⊥ = λ z. k (ap (λ (x : NodeHead). x.kind) e ∙ ap kind_of_number z ∙ kind_found Served) in
+      let z : at + 20 + read32 s (at + 4) - (at + 20) ≡ read32 s (at + 4) = omega arith in
+      record {
+        keys = rw (q, e, ne_eqb _ _ y) (ap (λ (l : ℕ). part s (at + 20) l ∷ node_keys s n (end_at s at)) (sym z));
+        inside = rw e (omega arith, let b : end_at s at ≤ length s = (rw q at w).0.1 in omega arith);
+        others = others_in;
+      }
 
 -- a head stands there
 pub node_in : (s : Bytes) (f : Source) (at : ℕ) → f ≡ Nodes at → KeysIn s f 1 → HeadIn s at
@@ -77,7 +101,7 @@ node_in s f at q w = (rw q at w).0
 
 -- a key of the record
 pub key_step : (s : Bytes) (f : Source) (k : Args) (n : ℕ) (r : KeyAt) → f ≡ Keys k → KeyStep s k r → KeysIn s f (suc n)
-    → Step s f n (record { served = false; key = r.key; rest = Keys r.rest })
+    → Step s f n (record { key = Some r.key; rest = Keys r.rest })
 unfolding keys_at KeysIn
 key_step s f k n r q i w =
     let l = ap length i.is in
@@ -98,20 +122,23 @@ one_in s (Keys k) n w = let b = w.1 in (w.0, omega arith)
 -- ---- one place after the other
 
 -- what is written of a place
-abbrev piece_at : Piece → Bool → Bytes → Bytes
-piece_at what served k = cond served [] (piece_of what k)
+abbrev pub piece_at : Piece → Bytes → Option Range → Bytes
+piece_at what s None = []
+piece_at what s (Some key) = piece_of what (range_bytes s key)
 
-module _ (what : Piece) (k : Bytes) (served : Bool) where
-  pub piece-served : served ≡ true → cond served [] (piece_of what k) ≡ []
+-- of one that is served, and of one that waits
+module _ (what : Piece) (s : Bytes) (o : Option Range) where
+  pub piece-served : o ≡ None → piece_at what s o ≡ []
   piece-served q = rw q
 
-  pub piece-key : served ≡ false → what ≡ Key → cond served [] (piece_of what k) ≡ blob k
-  unfolding piece_of
-  piece-key q e = rw (q, e)
+  module _ (key : Range) (q : o ≡ Some key) where
+    pub piece-key : what ≡ Key → piece_at what s o ≡ blob (range_bytes s key)
+    unfolding piece_of
+    piece-key e = rw (q, e)
 
-  pub piece-pttl : served ≡ false → what ≡ Pttl → cond served [] (piece_of what k) ≡ packed (pttl_texts k)
-  unfolding piece_of
-  piece-pttl q e = rw (q, e)
+    pub piece-pttl : what ≡ Pttl → piece_at what s o ≡ packed (pttl_texts (range_bytes s key))
+    unfolding piece_of
+    piece-pttl e = rw (q, e)
 
 module _ (what : Piece) (s : Bytes) where
   -- none are left
@@ -122,27 +149,26 @@ module _ (what : Piece) (s : Bytes) where
 
   -- the first, and the others
   keys-more : (f : Source) (n m : ℕ) (r : PlaceAt) → n ≡ m + 1 → Step s f m r
-      → pieces what (keys_at s f n) ≡ piece_at what r.served (range_bytes s r.key) ++ pieces what (keys_at s r.rest m)
-  keys-more f n m r q w = ap (λ (k : ℕ). pieces what (keys_at s f k)) (q ∙ add-one m) ∙ ap (pieces what) w.keys ∙ by r.served
+      → pieces what (keys_at s f n) ≡ piece_at what s r.key ++ pieces what (keys_at s r.rest m)
+  keys-more f n m r q w = ap (λ (k : ℕ). pieces what (keys_at s f k)) (q ∙ add-one m) ∙ ap (pieces what) w.keys ∙ by r.key
     where
-      by : (b : Bool) → pieces what (cond b (keys_at s r.rest m) (range_bytes s r.key ∷ keys_at s r.rest m))
-          ≡ piece_at what b (range_bytes s r.key) ++ pieces what (keys_at s r.rest m)
-      by true = refl
-      by false = refl
+      by : (o : Option Range) → pieces what (key_before s o (keys_at s r.rest m)) ≡ piece_at what s o ++ pieces what (keys_at s r.rest m)
+      by None = refl
+      by (Some key) = refl
 
   module _ (d₀ all d : Bytes) (to next : ℕ) (f : Source) (r : PlaceAt) (n m : ℕ) (q : n ≡ m + 1) (w : Step s f m r)
       (c : Copied d₀ to all d next (pieces what (keys_at s f n))) where
     -- room for the first
-    pub keys-room : next + length (piece_at what r.served (range_bytes s r.key)) ≤ length d
+    pub keys-room : next + length (piece_at what s r.key) ≤ length d
     keys-room =
-        copied-room d₀ all d (piece_at what r.served (range_bytes s r.key)) (pieces what (keys_at s f n)) (pieces what (keys_at s r.rest m)) to next
+        copied-room d₀ all d (piece_at what s r.key) (pieces what (keys_at s f n)) (pieces what (keys_at s r.rest m)) to next
         (keys-more f n m r q w) c
 
     -- it is written
-    pub keys_step : (d₁ : Bytes) (e : ℕ) → Wrote d next (piece_at what r.served (range_bytes s r.key)) d₁ e
+    pub keys_step : (d₁ : Bytes) (e : ℕ) → Wrote d next (piece_at what s r.key) d₁ e
         → Copied d₀ to all d₁ e (pieces what (keys_at s r.rest m))
     keys_step d₁ e h =
-        copied_next d₀ all d d₁ (piece_at what r.served (range_bytes s r.key)) (pieces what (keys_at s f n))
+        copied_next d₀ all d d₁ (piece_at what s r.key) (pieces what (keys_at s f n))
         (pieces what (keys_at s r.rest m)) to next e (keys-more f n m r q w) h.ends h.is c
 
   -- all are written

@@ -3,21 +3,22 @@
 // (specs/Source.antt). What is written of a key is a parameter (specs/Pieces.antt).
 #![tactic(auto)]
 
-ghost use Rattle.std.specs.Prelude.{cond, [], ℕ, suc, ◌+◌, ◌≤◌, length};
+ghost use Rattle.std.specs.Prelude.{ℕ, suc, ◌+◌, ◌≤◌, length};
 ghost use Rattle.config.specs.Limits.{max_bytes};
-ghost use Rattle.cursor.specs.At.{range_bytes, RangeIn};
+ghost use Rattle.cursor.specs.At.{RangeIn};
 ghost use Rattle.cmd.specs.Laws.{Wrote};
 ghost use Rattle.book.specs.Book.{Row};
 ghost use Rattle.planning_ask.specs.Asked.{SeveralIn};
 ghost use Rattle.sharded_lru.specs.Lent.{Lent};
 ghost use Rattle.key_filter.specs.Filter.{Filtered};
-ghost use Rattle.planning_places.specs.Pieces.{piece_of, pieces, place_at, places_now};
+ghost use Rattle.planning_places.specs.Pieces.{pieces, place_at, places_now};
 ghost use Rattle.planning_places.specs.Measure.{Measures, More, Grows, Bounded};
-ghost use Rattle.planning_places.specs.Source.{keys_at, KeysIn, Step};
+ghost use Rattle.planning_places.specs.Source.{keys_at, KeysIn, PlaceIn, piece_at, Step};
 
 use command_key::CommandKey;
 use config::{Now, Settings};
 use cursor::{Args, Range};
+use planning::NodeKind;
 use planning_ask::Several;
 use shard_lookup::Looked;
 
@@ -78,23 +79,22 @@ pub fn measure(
         × Bounded v.keys result }
 {
     let mut k = v.args;
-    let mut left = v.keys;
     let mut m = Measured {
         missing: 0,
         nodes: 0,
         keys: 0,
     };
-    while left > 0 {
+    for _ in 0..v.keys {
         let here = planning_ask::next_key(bytes, k);
         let key = here.key;
         m = measure_key(bytes, v, key, arena, g, when, m, seen);
         k = here.rest;
-        left -= 1;
     }
     m
 }
 
 // What is written of a key that waits: the key as a blob; or `PTTL` and the key.
+// Kept: `keys-are` and `pttls-are` are theorems over it, and a closure's clauses could not say, before it is called, how long what it writes is.
 #[derive(Clone, Copy)]
 pub enum Piece {
     Key,
@@ -102,17 +102,17 @@ pub enum Piece {
 }
 
 // Where places are read from: the plan, from this place on; or the record, from this cursor on, where every key waits.
+// Kept: no plainer as a Result, since neither source is the failure of the other.
 #[derive(Clone, Copy)]
 pub enum Source {
     Nodes(usize),
     Keys(Args),
 }
 
-// A place: whether it is served, and its key if it is not; and where the others are read from.
+// A place: its key, unless it is served; and where the others are read from.
 #[derive(Clone, Copy)]
 pub struct PlaceAt {
-    pub served: bool,
-    pub key: Range,
+    pub key: Option<Range>,
     pub rest: Source,
 }
 
@@ -124,11 +124,15 @@ fn place_at(src: &[u8], from: Source) -> PlaceAt
     match from {
         Source::Nodes(at) => {
             let node = plan::node_at(src, at);
+            let key = Range {
+                start: node.first,
+                end: node.second,
+            };
             PlaceAt {
-                served: node.kind == planning::NODE_SERVED,
-                key: Range {
-                    start: node.first,
-                    end: node.second,
+                key: if node.kind == Ok(NodeKind::Served) {
+                    None
+                } else {
+                    Some(key)
                 },
                 rest: Source::Nodes(node.end),
             }
@@ -138,8 +142,7 @@ fn place_at(src: &[u8], from: Source) -> PlaceAt
             let key = next.key;
             let rest = next.rest;
             PlaceAt {
-                served: false,
-                key: key,
+                key: Some(key),
                 rest: Source::Keys(rest),
             }
         }
@@ -147,20 +150,13 @@ fn place_at(src: &[u8], from: Source) -> PlaceAt
 }
 
 // One place: nothing, if it is served.
-fn write_place(
-    dst: &mut [u8],
-    to: usize,
-    what: Piece,
-    src: &[u8],
-    served: bool,
-    key: Range,
-) -> usize
-    requires { RangeIn src.now key × (to + length (cond served [] (piece_of what (range_bytes src.now key))) ≤ length dst.old) }
-    ensures { Wrote dst.old to (cond served [] (piece_of what (range_bytes src.now key))) dst.new result }
+fn write_place(dst: &mut [u8], to: usize, what: Piece, src: &[u8], key: Option<Range>) -> usize
+    requires { PlaceIn src.now key × (to + length (piece_at what src.now key) ≤ length dst.old) }
+    ensures { Wrote dst.old to (piece_at what src.now key) dst.new result }
 {
-    if served {
+    let Some(key) = key else {
         return to;
-    }
+    };
     let text = cursor::bytes_in(src, key);
     match what {
         Piece::Key => cmd::write_blob(dst, to, text),
@@ -181,14 +177,11 @@ pub fn write_waiting(
     ensures { Wrote dst.old to (pieces what (keys_at src.now from n)) dst.new result }
 {
     let mut at = from;
-    let mut left = n;
     let mut next = to;
-    while left > 0 {
+    for _ in 0..n {
         let here = place_at(src, at);
-        let key = here.key;
-        next = write_place(dst, next, what, src, here.served, key);
+        next = write_place(dst, next, what, src, here.key);
         at = here.rest;
-        left -= 1;
     }
     next
 }

@@ -84,13 +84,11 @@ pub fn plan_commands(
         arena.new plan.new send.new result × (result.sent ≤ x.sent + 2 ^ 26 * k.left) }
 {
     let mut at = k.at;
-    let mut left = k.left;
     let mut y = x;
-    while left > 0 {
+    for _ in 0..k.left {
         let head = cursor::head_at(bytes, at);
         y = plan_command(arena, plan, send, bytes, head, g, when, y, seen);
         at = cursor::args_end(bytes, head.args);
-        left -= 1;
     }
     y
 }

@@ -32,6 +32,7 @@ fn write_opt_in(dst: &mut [u8], to: usize, mode: CacheMode) -> usize
 }
 
 // One of the two commands that are sent for one missing key: `PTTL` and the key, or the command itself.
+// Kept: `half_room` and `other-room` are theorems over it: the rooms follow in either order, so that an exchange of the two is refused for the bytes alone.
 #[derive(Clone, Copy)]
 enum Half {
     Pttl,

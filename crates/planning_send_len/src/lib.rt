@@ -87,6 +87,7 @@ pub fn several_len(bytes: &[u8], v: Several, m: Measured) -> usize
 }
 
 // How many commands `CLIENT CACHING YES` is: one in opt-in mode.
+// Kept: one function for this and `opt_in_len`, given the number, would be no plainer than two arms, and its clause would name neither definition.
 fn opt_in_count(mode: CacheMode) -> usize
     ensures { result ≡ opt_in_count mode }
 {
@@ -135,6 +136,7 @@ pub fn write_start(dst: &mut [u8], to: usize, transaction: bool) -> usize
 }
 
 // `EXEC`, for a transaction.
+// Kept: `write_start` and this write two texts by two definitions, `start_bytes` and `end_bytes`, each with theorems of its own.
 pub fn write_end(dst: &mut [u8], to: usize, transaction: bool) -> usize
     requires { to + length (end_bytes transaction) ≤ length dst.old }
     ensures { Wrote dst.old to (end_bytes transaction) dst.new result }

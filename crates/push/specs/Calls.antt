@@ -1,8 +1,9 @@
 -- The ways through the whole call, as laws of its definition. Assumes what `Lent` says of the arena.
-use Rattle.std.specs.Prelude.{◌≡◌, refl, ℕ, true, false, length, eqb}
+use Rattle.std.specs.Prelude.{◌≡◌, refl, ℕ, true, false, length, Ok, Err, Some}
 use Rattle.std.proofs.Common.{sym, ap, ◌∙◌}
 use Rattle.buffer.specs.Same.{Bytes}
-use Rattle.config.specs.Causes.{bad_reply}
+use Rattle.config.specs.Causes.{bad_reply, number, cause_numbered}
+use Rattle.config.specs.declared.Cause.{Cause}
 use Rattle.config.specs.declared.Settings.{Settings}
 use Rattle.statistics.specs.declared.Statistics.{Statistics}
 use Rattle.resp3.specs.Ends.{is_value}
@@ -16,10 +17,8 @@ use Rattle.arena.specs.Held.{Held, lend, book_of}
 use Rattle.resolving.specs.Pushes.{pushed}
 use Rattle.sharded_lru.specs.Lent.{setup_now}
 use Rattle.sharded_lru.specs.Admit.{admitted, Entered}
-use Rattle.sharded_lru.specs.declared.Admitted.TheVariants.{Refused as NotAdmitted}
-use Rattle.call_entry.specs.Entered.{no_cause, holding}
+use Rattle.call_entry.specs.Entered.{holding}
 use Rattle.call_entry.specs.Laws.{is-entered, not_entered}
-use Rattle.single_calls.specs.declared.Answered.TheVariants.{Done, Refused}
 use Rattle.single_calls.specs.Single.{Return, refused_as}
 use Rattle.statistics.specs.OfBook.{counts_of}
 use Rattle.single_calls.specs.Answers.{InvalidationLeft}
@@ -31,11 +30,11 @@ use Rattle.push.specs.Kept.{Kept, One}
 
 module _ (size mode ttl : ℕ) (bytes s : Bytes) where
   -- a push that is not admitted
-  pub not-admitted : (n : ℕ) (lent : Counts) (next : ℕ) → admitted size mode ttl s ≡ NotAdmitted n
-      → push_call size mode ttl bytes (holding s lent next) ≡ refused_as n (holding s lent next)
+  pub not-admitted : (cause : Cause) (lent : Counts) (next : ℕ) → admitted size mode ttl s ≡ Err cause
+      → push_call size mode ttl bytes (holding s lent next) ≡ refused_as (number cause) (holding s lent next)
   unfolding push_call
-  not-admitted n lent next e =
-      not_entered (λ n. refused_as n (holding s lent next)) (λ g rows. imaged (setup_now g) rows bytes (holding s lent next)) size mode ttl n s e
+  not-admitted cause lent next e =
+      not_entered (λ n. refused_as n (holding s lent next)) (λ g rows. imaged (setup_now g) rows bytes (holding s lent next)) size mode ttl cause s e
 
   -- one that is
   pub is-admitted : (g : Settings) (lent : Counts) (next : ℕ) → Entered size mode ttl s g
@@ -61,15 +60,15 @@ one_value bytes e = record { value = decode bytes; means = value-means bytes e }
 
 -- ---- what is left
 
-pub push-refused : (d : Return) (n : ℕ) → eqb n no_cause ≡ false → (s : Bytes) (c : Statistics) (next : ℕ) → d ≡ refused_as n (holding s (counts_of c) next)
-    → InvalidationLeft d s (record { answer = Refused n; counts = c })
-push-refused d n f s c next e =
-    rw e (record { answer = refused-is (refused_as n (holding s (counts_of c) next)) n f refl; cause = refl; arena = refl; counts = refl })
+pub push-refused : (d : Return) (cause : Cause) → cause_numbered (number cause) ≡ Some cause → (s : Bytes) (c : Statistics) (next : ℕ)
+    → d ≡ refused_as (number cause) (holding s (counts_of c) next) → InvalidationLeft d s (record { answer = Err cause; counts = c })
+push-refused d cause f s c next e =
+    rw e (record { answer = refused-is (refused_as (number cause) (holding s (counts_of c) next)) cause f refl; cause = refl; arena = refl; counts = refl })
 
 pub push-left : (g : Settings) (rows : ℕ → Row) (bytes s u : Bytes) (lent : Counts) (next : ℕ) (sum : Statistics) (d : Return)
     → d ≡ pushed_on (setup_now g) rows (decode bytes) (holding s lent next) → length u ≡ length s
     → Kept g u sum (after_call (setup_now g) (pushed (decode bytes)) (book_of rows (holding s lent next)))
-    → InvalidationLeft d u (record { answer = Done; counts = sum })
+    → InvalidationLeft d u (record { answer = Ok tt; counts = sum })
 unfolding pushed_on lend
 push-left g rows bytes s u lent next sum d e l k =
     let bk = after_call (setup_now g) (pushed (decode bytes)) (book_of rows (holding s lent next)) in

@@ -1,8 +1,8 @@
 -- The ways through a push, as laws of its definition. Assumes what `Lent` says of the arena.
-use Rattle.std.specs.Prelude.{◌≡◌, Bool, true, false, cond, ℕ, ◌<◌}
+use Rattle.std.specs.Prelude.{◌≡◌, Bool, true, false, cond, ℕ, ◌<◌, Option, Some, None}
 use Rattle.std.proofs.Math.Path.{refl, ap, subst}
 use Rattle.std.proofs.Common.{sym, ◌∙◌, arith}
-use Rattle.std.proofs.Math.Option.{Option, some}
+use Rattle.std.proofs.Math.Option.{some}
 use Rattle.std.proofs.Math.Option as option
 use Rattle.buffer.specs.Cases.{by_test}
 use Rattle.buffer.specs.Same.{Bytes, same}
@@ -13,8 +13,6 @@ use Rattle.resp3.specs.declared.Kind.TheVariants.{BlobString}
 use Rattle.resp3.specs.Value.{Value, Values, blob_string, simple_string, simple_error, number, null_as, double, boolean, blob_error, verbatim_string}
 use Rattle.resp3.specs.Value.{big_number, array, map, set, attribute, push as push_value, none, more, Means}
 use Rattle.resp3_element.specs.declared.Cursor.{Cursor}
-use Rattle.resp3_element.specs.declared.Elements.{Elements}
-use Rattle.resp3_element.specs.declared.Elements.TheVariants.{Of, No}
 use Rattle.resp3_element.specs.Meaning.{of_kind, is_null, blob_of, array_of, Stands, Holds}
 use Rattle.book.specs.Book.{Setup, Book, Counts, plus, count, invalidate, on, invalidate_all, all_entries, put, effect, after, after_all}
 use Rattle.book.specs.Calls.{push, push_all, ons, invalidations, after_call, call-defs}
@@ -88,16 +86,16 @@ one-there s c e n f q = go q.values q.stands
     go (more v vs) st = record { value = v; means = f v vs st }
 
 -- a list's elements
-pub list-there : (s : Bytes) (c : Cursor) (o : Option Values) → Holds s (Of c) o → Standing s c
+pub list-there : (s : Bytes) (c : Cursor) (o : option.Option Values) → Holds s (Some c) o → Standing s c
 list-there s c (some vs) h = record { values = vs; stands = h }
 list-there s c option.none h = absurd h
 
 -- what is known of a list's elements, where there are some or none
-pub holds_of : (s : Bytes) (r : Elements) (c : Cursor) (o : Option Values) → r ≡ Of c → Holds s r o → Holds s (Of c) o
-holds_of s r c o e h = subst (λ (x : Elements). Holds s x o) e h
+pub holds_of : (s : Bytes) (r : Option Cursor) (c : Cursor) (o : option.Option Values) → r ≡ Some c → Holds s r o → Holds s (Some c) o
+holds_of s r c o e h = subst (λ (x : Option Cursor). Holds s x o) e h
 
-pub holds-no : (s : Bytes) (r : Elements) (o : Option Values) → r ≡ No → Holds s r o → Holds s No o
-holds-no s r o e h = subst (λ (x : Elements). Holds s x o) e h
+pub holds-no : (s : Bytes) (r : Option Cursor) (o : option.Option Values) → r ≡ None → Holds s r o → Holds s None o
+holds-no s r o e h = subst (λ (x : Option Cursor). Holds s x o) e h
 
 -- ---- the book
 
@@ -216,30 +214,31 @@ module _ (g : Settings) (array s : Bytes) (c : Cursor) (counts : Statistics) (go
 
 module _ (g : Settings) (s u : Bytes) (c : Cursor) (d : Statistics) (bk : Book) where
   -- the value behind `invalidate` is an array
-  pub by-array : (o : Option Values) (b : Bool) → Holds s (Of c) o → ((vs : Values) → Stands s c vs → Kept g u d (after_call (setup_now g) (push (keys_of vs)) bk))
+  pub by-array : (o : option.Option Values) (b : Bool) → Holds s (Some c) o → ((vs : Values) → Stands s c vs
+      → Kept g u d (after_call (setup_now g) (push (keys_of vs)) bk))
       → Kept g u d (after_call (setup_now g) (invalidating o b) bk)
   by-array (some vs) b h f = f vs h
   by-array option.none b h f = absurd h
 
   -- the value is a push
-  pub by-push : (o : Option Values) → Holds s (Of c) o → ((vs : Values) → Stands s c vs → Kept g u d (after_call (setup_now g) (from_elements vs) bk))
+  pub by-push : (o : option.Option Values) → Holds s (Some c) o → ((vs : Values) → Stands s c vs → Kept g u d (after_call (setup_now g) (from_elements vs) bk))
       → Kept g u d (after_call (setup_now g) (from_push o) bk)
   by-push (some vs) h f = f vs h
   by-push option.none h f = absurd h
 
 module _ (p : Setup) (s : Bytes) (bk : Book) where
   -- it is neither an array nor a null
-  pub no-array : (o : Option Values) (b : Bool) → Holds s No o → b ≡ false → after_call p (invalidating o b) bk ≡ bk
+  pub no-array : (o : option.Option Values) (b : Bool) → Holds s None o → b ≡ false → after_call p (invalidating o b) bk ≡ bk
   no-array (some vs) b h e = absurd h
   no-array option.none b h e = rw e (ignored-is p bk)
 
   -- it is a null
-  null-all : (o : Option Values) (b : Bool) → Holds s No o → b ≡ true → after_call p (invalidating o b) bk ≡ after p invalidate_all bk
+  null-all : (o : option.Option Values) (b : Bool) → Holds s None o → b ≡ true → after_call p (invalidating o b) bk ≡ after p invalidate_all bk
   null-all (some vs) b h e = absurd h
   null-all option.none b h e = rw e (all-is p bk)
 
   -- it is no push
-  pub no-push : (o : Option Values) → Holds s No o → after_call p (from_push o) bk ≡ bk
+  pub no-push : (o : option.Option Values) → Holds s None o → after_call p (from_push o) bk ≡ bk
   no-push (some vs) h = absurd h
   no-push option.none h = ignored-is p bk
 
@@ -285,7 +284,7 @@ module _ (p : Setup) (s : Bytes) (bk : Book) where
               (by w vs (moves v (more w vs) st))
 
 -- it is a null, and everything was dropped
-pub by-null : (g : Settings) (s u : Bytes) (d : Statistics) (bk : Book) (o : Option Values) (b : Bool) → Holds s No o → b ≡ true
+pub by-null : (g : Settings) (s u : Bytes) (d : Statistics) (bk : Book) (o : option.Option Values) (b : Bool) → Holds s None o → b ≡ true
     → Kept g u d (after (setup_now g) invalidate_all bk)
     → Kept g u d (after_call (setup_now g) (invalidating o b) bk)
 by-null g s u d bk o b h e k = subst (Kept g u d) (sym (null-all (setup_now g) s bk o b h e)) k

@@ -14,46 +14,20 @@ ghost use Rattle.sharded_lru.specs.Lent.{setup_now, Arena};
 ghost use Rattle.call_entry.specs.Entered.{holding};
 ghost use Rattle.statistics.specs.OfBook.{counts_of};
 ghost use Rattle.single_calls.specs.Answers.{InvalidationLeft};
-ghost use Rattle.push.specs.KeyKind.{is_key_kind};
 ghost use Rattle.push.specs.Push.{push_call};
 ghost use Rattle.push.specs.Kept.{Kept, One, Standing};
 
-use config::Settings;
+use config::{CacheConfig, Cause, Settings};
 use resp3::Kind;
-use resp3_element::{Cursor, Elements};
-use sharded_lru::Admitted;
-use single_calls::{Answered, Invalidated};
+use resp3_element::Cursor;
+use single_calls::Invalidated;
 use statistics::Statistics;
-
-// Whether values of the kind are keys: blob strings alone are.
-fn is_key_kind(kind: Kind) -> bool
-    ensures { result ≡ is_key_kind kind }
-{
-    match kind {
-        Kind::BlobString => true,
-        Kind::SimpleString => false,
-        Kind::SimpleError => false,
-        Kind::Number => false,
-        Kind::Null => false,
-        Kind::Double => false,
-        Kind::Boolean => false,
-        Kind::BlobError => false,
-        Kind::VerbatimString => false,
-        Kind::BigNumber => false,
-        Kind::Array => false,
-        Kind::Map => false,
-        Kind::Set => false,
-        Kind::Attribute => false,
-        Kind::Push => false,
-        Kind::Unknown => false,
-    }
-}
 
 // Whether the value is a blob string: only such a one is a key.
 fn is_blob(value: &[u8]) -> bool
     ensures { (v : Value) → Means value.now v → result ≡ of_kind BlobString v }
 {
-    is_key_kind(resp3_element::kind(value))
+    resp3_element::kind(value) == Kind::BlobString
 }
 
 // Whether the value is the blob `invalidate`.
@@ -97,6 +71,7 @@ fn invalidate_keys(
 {
     let mut c = first;
     let mut sum = counts;
+    // Kept: no plainer as a `for`: the cursor itself says how many are left, and a second count beside it would have to be tied to it.
     while c.left > 0 {
         sum = invalidate_key(arena, g, resp3_element::element(array, c), sum);
         c = resp3_element::next(array, c);
@@ -111,8 +86,8 @@ fn invalidate_by(arena: &mut [u8], g: Settings, value: &[u8], counts: Statistics
         Kept g arena.new result (after_call (setup_now g) (invalidating (array_of v) (is_null v)) bk) }
 {
     match resp3_element::array(value) {
-        Elements::Of(c) => invalidate_keys(arena, g, value, c, counts),
-        Elements::No => {
+        Some(c) => invalidate_keys(arena, g, value, c, counts),
+        None => {
             if !resp3_element::is_null(value) {
                 return counts;
             }
@@ -154,38 +129,37 @@ fn push_in(arena: &mut [u8], g: Settings, bytes: &[u8], counts: Statistics) -> S
         Kept g arena.new result (after_call (setup_now g) (pushed v) bk) }
 {
     match resp3_element::push(bytes) {
-        Elements::Of(c) => by_elements(arena, g, bytes, c, counts),
-        Elements::No => counts,
+        Some(c) => by_elements(arena, g, bytes, c, counts),
+        None => counts,
     }
 }
 
 // Does what a push asks for.
 pub fn handle_push(
     arena: &mut [u8],
-    size: u64,
-    mode: u64,
-    ttl: u64,
+    cache_config: CacheConfig,
     bytes: &[u8],
     counts: Statistics,
 ) -> Invalidated
     ensures { (next : ℕ) →
-        InvalidationLeft (push_call size mode ttl bytes.now (holding arena.old (counts_of counts) next)) arena.new result }
+        InvalidationLeft (push_call cache_config.size cache_config.mode cache_config.ttl bytes.now (holding arena.old (counts_of counts) next)) arena.new result }
 {
-    match sharded_lru::admit(arena, size, mode, ttl) {
-        Admitted::Refused(n) => Invalidated {
-            answer: Answered::Refused(n),
+    // Kept: a match, since a refusal is returned with the counts that were given, which `?` cannot add.
+    match sharded_lru::admit(arena, cache_config) {
+        Err(cause) => Invalidated {
+            answer: Err(cause),
             counts,
         },
-        Admitted::Admits(g) => {
+        Ok(g) => {
             if !resp3::is_value(bytes) {
                 return Invalidated {
-                    answer: Answered::Refused(config::BAD_REPLY),
+                    answer: Err(Cause::BadReply),
                     counts,
                 };
             }
             let sum = push_in(arena, g, bytes, counts);
             Invalidated {
-                answer: Answered::Done,
+                answer: Ok(()),
                 counts: sum,
             }
         }

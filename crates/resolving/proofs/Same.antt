@@ -1,15 +1,13 @@
 -- Resolving place by place, as Resolve.antt defines it, is what the Rust's loops do. Assumes nothing.
 -- (Where a definition changes, a worked case is to say so first: this file cites one.)
-use Rattle.std.specs.Prelude.{◌≡◌, refl, Bool, true, false, List, [], ◌∷◌, ◌++◌, ℕ, pos, negsuc}
+use Rattle.std.specs.Prelude.{◌≡◌, refl, Bool, true, false, List, [], ◌∷◌, ◌++◌, ℕ, pos, negsuc, Option, Some, None, ℤ}
 use Rattle.std.proofs.Common.{sym, ◌∙◌, append_assoc, append-nil}
-use Rattle.std.proofs.Math.Option.{Option, some}
+use Rattle.std.proofs.Math.Option.{some}
 use Rattle.std.proofs.Math.Option as option
 use Rattle.buffer.specs.Cases.{by_test}
 use Rattle.config.specs.declared.CacheMode.{CacheMode}
 use Rattle.config.specs.declared.CacheMode.TheVariants.{All, OptIn}
 use Rattle.resp3.specs.Value.{Value, Values, null, array, none, more, count}
-use Rattle.resp3_element.specs.declared.Integer.{Integer}
-use Rattle.resp3_element.specs.declared.Integer.TheVariants.{Is, No}
 use Rattle.resp3_element.specs.Meaning.{is_error, integer_of, array_of}
 use Rattle.book.specs.Calls.{Missing, Storing}
 use Rattle.resolving.specs.Plan.{Place, served, waiting, Command, handed_on, cached, cached_array, single, multiple, Plan}
@@ -26,10 +24,10 @@ use Rattle.resolving.specs.Rust.{resolve_rust}
 -- ---- a store
 
 -- the expiry
-expire-same : (now client : ℕ) (pttl : Integer) → expire_time now client pttl ≡ expiry_of now client pttl
-expire-same now client No = refl
-expire-same now client (Is (pos n)) = refl
-expire-same now client (Is (negsuc n)) = refl
+expire-same : (now client : ℕ) (pttl : Option ℤ) → expire_time now client pttl ≡ expiry_of now client pttl
+expire-same now client None = refl
+expire-same now client (Some (pos n)) = refl
+expire-same now client (Some (negsuc n)) = refl
 
 -- what the lru is told of one reply
 insert-same : (now : ℕ) (m : Missing) (v pttl : Value) (lru : List Storing) → insert_unless_error now m v pttl lru ≡ lru ++ store_of now m pttl v
@@ -82,7 +80,8 @@ zip-same now (waiting m ∷ ps) (more v vs) (more t rs) before lru =
     (zip-same now ps vs rs (push_back before v) (lru ++ store_of now m t v))
 
 -- the same from the first place on, where the reply is an array
-array_same : (now : ℕ) (ps : List Place) (o : Option Values) (rs : Values) (lru : List Storing) → if_array now ps o rs lru ≡ out_of lru (fill_from now ps o rs)
+array_same : (now : ℕ) (ps : List Place) (o : option.Option Values) (rs : Values) (lru : List Storing)
+    → if_array now ps o rs lru ≡ out_of lru (fill_from now ps o rs)
 array_same now ps option.none rs lru = refl
 array_same now ps (some vs) rs lru = zip-same now ps vs rs none lru
 
@@ -165,7 +164,7 @@ pub same-as-rust : (p : Plan) (mode : CacheMode) (now : ℕ) (v : Value) → res
 unfolding resolve_rust resolve
 same-as-rust p mode now v = go (replies_of p.transaction v)
   where
-    go : (o : Option Values) → from_value o (λ rs. command_loop p.transaction mode now p.commands rs none [])
+    go : (o : option.Option Values) → from_value o (λ rs. command_loop p.transaction mode now p.commands rs none [])
         ≡ as_returned p.transaction (from_replies o (λ rs. take_commands mode now p.commands rs))
     go option.none = refl
     go (some rs) = loop-same p.transaction mode now p.commands rs none [] ∙ after_nothing p.transaction (take_commands mode now p.commands rs)

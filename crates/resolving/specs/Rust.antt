@@ -1,13 +1,11 @@
 -- Resolving as caching/cmd.rs and `CacheManager::insert` have it, statement by statement: what the Rust changes (the replies' iterator, the response, the
 -- lru) is a parameter that the next statement gets. Assumes nothing: these are definitions. Same.antt proves that they say what Resolve.antt says.
-use Rattle.std.specs.Prelude.{Bool, true, false, cond, List, [], ◌∷◌, ◌++◌, ℕ, suc, ◌+◌, min, ltb, ℤ, pos, negsuc}
-use Rattle.std.proofs.Math.Option.{Option, some}
+use Rattle.std.specs.Prelude.{Bool, true, false, cond, List, [], ◌∷◌, ◌++◌, ℕ, suc, ◌+◌, min, ltb, ℤ, pos, negsuc, Option, Some, None}
+use Rattle.std.proofs.Math.Option.{some}
 use Rattle.std.proofs.Math.Option as option
 use Rattle.config.specs.declared.CacheMode.{CacheMode}
 use Rattle.config.specs.declared.CacheMode.TheVariants.{All, OptIn}
 use Rattle.resp3.specs.Value.{Value, Values, null, array, none, more, encode}
-use Rattle.resp3_element.specs.declared.Integer.{Integer}
-use Rattle.resp3_element.specs.declared.Integer.TheVariants.{Is, No}
 use Rattle.resp3_element.specs.Meaning.{is_error, integer_of, array_of}
 use Rattle.book.specs.Calls.{Missing, Storing}
 use Rattle.resolving.specs.Plan.{Place, served, waiting, Command, handed_on, cached, cached_array, single, multiple, Plan}
@@ -27,9 +25,9 @@ as_u64 (pos n) = n
 as_u64 (negsuc n) = 0
 
 -- `match pttl { Ok(pttl) if pttl > 0 => min(now + pttl, client_side_expire_time), _ => client_side_expire_time }`
-abbrev pub expire_time : ℕ → ℕ → Integer → ℕ
-expire_time now client (Is z) = cond (positive z) (min (now + as_u64 z) client) client
-expire_time now client No = client
+abbrev pub expire_time : ℕ → ℕ → Option ℤ → ℕ
+expire_time now client (Some z) = cond (positive z) (min (now + as_u64 z) client) client
+expire_time now client None = client
 
 -- `self.lru.insert(..)`: what the lru is told is put last
 abbrev pub insert : ℕ → Missing → Value → Value → List Storing → List Storing
@@ -89,7 +87,7 @@ zip_loop now (more v vs) (more pttl replies) (p ∷ commands) response lru =
     zip_loop now vs replies commands (set_at response p.index v) (insert_unless_error now p.missing v pttl lru)
 
 -- `if let Some(Value::Array(mget_values)) = replies.next()`: the test of the kind
-abbrev pub if_array : ℕ → List Place → Option Values → Values → List Storing → Out
+abbrev pub if_array : ℕ → List Place → option.Option Values → Values → List Storing → Out
 if_array now ps option.none replies lru = err lru
 if_array now ps (some vs) replies lru = zip_loop now vs replies (parts_of 0 ps) (response_of ps) lru
 
@@ -130,7 +128,7 @@ command_loop transaction mode now (c ∷ cs) replies response lru =
     attempt (arm mode now c replies lru) (λ l. failed l) (λ v l rest. command_loop transaction mode now cs rest (push_back response v) l)
 
 -- `from_redis_value(result)?`, by rule S1
-abbrev pub from_value : Option Values → (Values → Returned) → Returned
+abbrev pub from_value : option.Option Values → (Values → Returned) → Returned
 from_value option.none next = failed []
 from_value (some replies) next = next replies
 

@@ -1,5 +1,5 @@
 -- What the dry pass finds and the answer pass writes, by the walk over the nodes from a place on. Assumes nothing: these are definitions.
-use Rattle.std.specs.Prelude.{◌≡◌, Bool, true, false, cond, List, [], ℕ, ◌+◌, ◌-◌, ◌≤◌, leb, length}
+use Rattle.std.specs.Prelude.{◌≡◌, Option, Bool, true, false, List, [], ℕ, ◌+◌, ◌-◌, ◌≤◌, length}
 use Rattle.buffer.specs.Same.{Bytes}
 use Rattle.buffer.specs.Part.{put}
 use Rattle.config.specs.declared.CacheMode.{CacheMode}
@@ -11,9 +11,9 @@ use Rattle.planning.specs.Rules.{GoodNode}
 use Rattle.resolving_walk.specs.Walk.{Walked, stopped, through, walk}
 use Rattle.resolving_step.specs.declared.Walk.{Walk}
 use Rattle.resolving_step.specs.declared.Next.{Next}
-use Rattle.resolving_step.specs.declared.Next.TheVariants.{Plan, Reply, Head, Keep, Pass, Wrong as WrongNext}
+use Rattle.resolving_step.specs.declared.Next.TheVariants.{Plan, Reply, Head, Keep, Pass}
 use Rattle.resolving_step.specs.Steps.{Bounds, At}
-use Rattle.room.specs.declared.Room.{Room}
+use Rattle.room.specs.Room.{has_room}
 use Rattle.resolving_passes.specs.declared.Dry.{Dry}
 use Rattle.resolving_passes.specs.declared.Dry.TheVariants.{Fits, Short, Wrong}
 
@@ -26,7 +26,6 @@ Ordered (Reply a e) = a ≤ e
 Ordered (Head n) = Unit {0}
 Ordered (Keep m a e) = a ≤ e
 Ordered Pass = Unit {0}
-Ordered WrongNext = Unit {0}
 
 -- how many bytes a step adds
 abbrev pub next_size : Next → ℕ
@@ -35,7 +34,6 @@ next_size (Reply a e) = e - a
 next_size (Head n) = length (digits n) + 3
 next_size (Keep m a e) = e - a
 next_size Pass = 0
-next_size WrongNext = 0
 
 -- ---- where a pass begins
 
@@ -57,11 +55,11 @@ dry_if true = Fits
 dry_if false = Short
 
 -- a wrong shape, else whether n bytes more have room
-unfoldable pub dry_of : Room → Walked → Dry
+unfoldable pub dry_of : Option ℕ → Walked → Dry
 dry_of room (stopped ss) = Wrong
-dry_of room (through bs ss) = dry_if (cond room.short false (leb (length bs) room.left))
+dry_of room (through bs ss) = dry_if (has_room room (length bs))
 
-abbrev pub DryIs : Bytes → Bytes → Walk → CacheMode → ℕ → Room → Dry → Type 0
+abbrev pub DryIs : Bytes → Bytes → Walk → CacheMode → ℕ → Option ℕ → Dry → Type 0
 DryIs p s c mode clock room r = (ns : List Node) (es rs : Values) → Starts p s c ns es rs → r ≡ dry_of room (walk mode clock ns es rs)
 
 -- ---- the answer pass

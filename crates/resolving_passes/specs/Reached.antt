@@ -1,8 +1,7 @@
 -- The invariant that all passes share: what of the walk is done, and that the rest is the walk from the place reached. Assumes nothing.
-use Rattle.std.specs.Prelude.{◌≡◌, false, ℕ, ◌≤◌, ◌<◌, drop}
-use Rattle.std.proofs.Common.{sym, ◌∙◌, arith, length-append}
+use Rattle.std.specs.Prelude.{◌≡◌, None, Some, ℕ, ◌≤◌, ◌<◌, drop}
+use Rattle.std.proofs.Common.{◌∙◌, arith, length-append}
 use Rattle.std.proofs.Math.Path.{ap}
-use Rattle.std.proofs.Math.Bool.{true}
 use mathlib.Core.List.{List, [], ◌∷◌, ◌++◌, append-nil}
 use Rattle.std.proofs.Math.ListN.{length, length-drop}
 use Rattle.buffer.specs.Same.{Bytes}
@@ -19,9 +18,7 @@ use Rattle.resolving_walk.specs.Walk.{Move, stop, move, node_move, bytes_of, sto
 use Rattle.resolving_walk.proofs.WalkLaws.{before-nothing, before-before}
 use Rattle.resolving_step.specs.declared.Walk.{Walk}
 use Rattle.resolving_step.specs.declared.Step.{Step}
-use Rattle.resolving_step.specs.declared.Next.{Next}
-use Rattle.resolving_step.specs.declared.Next.TheVariants.{Wrong}
-use Rattle.resolving_step.specs.Steps.{next_bytes, next_stores, is_wrong, NextIn, Placed, Does, StepIs}
+use Rattle.resolving_step.specs.Steps.{next_bytes, next_stores, NextIn, Placed, Does, StepIs}
 use Rattle.resolving_step.specs.Laws.{head_in}
 use Rattle.resolving_passes.specs.Passes.{Starts, Begins}
 
@@ -47,10 +44,9 @@ module _ (p s : Bytes) (mode : CacheMode) (clock : ℕ) where
   pub record Stepped (o : Walked) (c : Walk) (bs : Bytes) (ss : List Storing) (r : Step) : Type 0 where
     pub inside : NextIn p s r.next
     pub storable : AllStorable (next_stores p s r.next)
-    pub wrong : is_wrong r.next ≡ true → o ≡ stopped ss
-    pub on : is_wrong r.next ≡ false → Reached o r.walk (bs ++ next_bytes p s r.next) (ss ++ next_stores p s r.next)
-    pub far : is_wrong r.next ≡ false → c.at < r.walk.at
-    pub near : is_wrong r.next ≡ false → r.walk.at ≤ length p
+    pub on : Reached o r.walk (bs ++ next_bytes p s r.next) (ss ++ next_stores p s r.next)
+    pub far : c.at < r.walk.at
+    pub near : r.walk.at ≤ length p
 
   -- a node has bytes
   longer : (nd : Node) (r : Bytes) → length r < length (enc_node nd ++ r)
@@ -63,44 +59,28 @@ module _ (p s : Bytes) (mode : CacheMode) (clock : ℕ) where
   further : (a b : ℕ) (nd : Node) (r : Bytes) → a ≤ length p → b ≤ length p → drop a p ≡ enc_node nd ++ r → drop b p ≡ r → a < b
   further a b nd r i j h g = let k = longer nd r in omega (arith, simp length-drop at (ap length h), simp length-drop at (ap length g))
 
-  -- no step both goes on and is wrong
-  both : {A : Type 0} (n : Next) → is_wrong n ≡ true → is_wrong n ≡ false → A
-  both n h g = absurd (let y : true ≡ false = sym h ∙ g in let x : ◌≡◌ {A = ℕ} 0 1 = cc in omega arith)
-
   stepped-node : (o : Walked) (c : Walk) (bs : Bytes) (ss : List Storing) (r : Step) (nd : Node) (ns : List Node) (es rs : Values)
       → Starts p s c (nd ∷ ns) es rs
-      → o ≡ before bs ss (walk mode clock (nd ∷ ns) es rs) → StepIs p s c mode clock r → Stepped o c bs ss r
+      → o ≡ before bs ss (walk mode clock (nd ∷ ns) es rs) → StepIs p s c mode clock (Some r) → Stepped o c bs ss r
   unfolding walk
   stepped-node o c bs ss r nd ns es rs h e f = go (node_move mode clock nd es rs) (f nd ns es rs h.bounds h.good.0 h.at) e
     where
-      wrong-is : r.next ≡ Wrong → is_wrong r.next ≡ true
-      wrong-is d = ap is_wrong d
-
-      go : (v : Move) → Does p s ns r v → o ≡ before bs ss (move_then v (λ q k. walk mode clock ns q k)) → Stepped o c bs ss r
-      go stop d g =
-          record {
-            inside = rw d tt;
-            storable = rw d tt;
-            wrong = λ z. g ∙ ap stopped (append-nil ss);
-            on = λ z. both r.next (wrong-is d) z;
-            far = λ z. both r.next (wrong-is d) z;
-            near = λ z. both r.next (wrong-is d) z;
-          }
+      go : (v : Move) → Does p s ns (Some r) v → o ≡ before bs ss (move_then v (λ q k. walk mode clock ns q k)) → Stepped o c bs ss r
+      go stop d g = absurd d
       go (move x fs qs) d g =
           record {
             inside = d.0.inside;
             storable = d.0.storable;
-            wrong = λ z. both r.next z d.0.fine;
-            on = λ z.
-                record {
-                  rest = record { ns = ns; es = fs; rs = qs; starts = record { at = d.1; good = h.good.1; bounds = h.bounds } };
-                  is = g ∙ before-before bs (bytes_of x) ss (stores_of x) (walk mode clock ns fs qs) ∙ rw (d.0.bytes, d.0.stores);
-                };
-            far = λ z. further c.at r.walk.at nd (enc_all enc_node ns) h.at.here d.1.here h.at.nodes d.1.nodes;
-            near = λ z. d.1.here;
+            on = record {
+              rest = record { ns = ns; es = fs; rs = qs; starts = record { at = d.1; good = h.good.1; bounds = h.bounds } };
+              is = g ∙ before-before bs (bytes_of x) ss (stores_of x) (walk mode clock ns fs qs) ∙ rw (d.0.bytes, d.0.stores);
+            };
+            far = further c.at r.walk.at nd (enc_all enc_node ns) h.at.here d.1.here h.at.nodes d.1.nodes;
+            near = d.1.here;
           }
 
-  pub stepped : (o : Walked) (c : Walk) (bs : Bytes) (ss : List Storing) (r : Step) → Reached o c bs ss → c.at < length p → StepIs p s c mode clock r
+  pub stepped : (o : Walked) (c : Walk) (bs : Bytes) (ss : List Storing) (r : Step) → Reached o c bs ss → c.at < length p
+      → StepIs p s c mode clock (Some r)
       → Stepped o c bs ss r
   stepped o c bs ss r h l f = go h.rest.ns h.rest.starts h.is
     where
@@ -108,6 +88,25 @@ module _ (p s : Bytes) (mode : CacheMode) (clock : ℕ) where
           → Stepped o c bs ss r
       go [] k e = absurd (let z = ap length k.at.nodes in omega (arith, simp length-drop at z))
       go (nd ∷ ns) k e = stepped-node o c bs ss r nd ns h.rest.es h.rest.rs k e f
+
+  -- where there is no step, the walk stops
+  stops-node : (o : Walked) (c : Walk) (bs : Bytes) (ss : List Storing) (nd : Node) (ns : List Node) (es rs : Values)
+      → Starts p s c (nd ∷ ns) es rs
+      → o ≡ before bs ss (walk mode clock (nd ∷ ns) es rs) → StepIs p s c mode clock None → o ≡ stopped ss
+  unfolding walk
+  stops-node o c bs ss nd ns es rs h e f = go (node_move mode clock nd es rs) (f nd ns es rs h.bounds h.good.0 h.at) e
+    where
+      go : (v : Move) → Does p s ns None v → o ≡ before bs ss (move_then v (λ q k. walk mode clock ns q k)) → o ≡ stopped ss
+      go stop d g = g ∙ ap stopped (append-nil ss)
+      go (move x fs qs) d g = absurd d
+
+  pub stops : (o : Walked) (c : Walk) (bs : Bytes) (ss : List Storing) → Reached o c bs ss → c.at < length p → StepIs p s c mode clock None
+      → o ≡ stopped ss
+  stops o c bs ss h l f = go h.rest.ns h.rest.starts h.is
+    where
+      go : (ns : List Node) → Starts p s c ns h.rest.es h.rest.rs → o ≡ before bs ss (walk mode clock ns h.rest.es h.rest.rs) → o ≡ stopped ss
+      go [] k e = absurd (let z = ap length k.at.nodes in omega (arith, simp length-drop at z))
+      go (nd ∷ ns) k e = stops-node o c bs ss nd ns h.rest.es h.rest.rs k e f
 
   -- at the plan's end all is done
   pub ended : (o : Walked) (c : Walk) (bs : Bytes) (ss : List Storing) → Reached o c bs ss → length p ≤ c.at → o ≡ through bs ss

@@ -4,26 +4,11 @@
 
 ghost use Rattle.std.specs.Prelude.{◌≡◌, ◌+◌, ◌≤◌, length};
 ghost use Rattle.buffer.specs.Part.{put};
-ghost use Rattle.resolving_step.specs.Steps.{element_bytes, next_bytes, is_wrong, NextIn};
+ghost use Rattle.resolving_step.specs.Steps.{element_bytes, next_bytes, NextIn};
 ghost use Rattle.resolving_passes.specs.Passes.{Ordered, next_size, Begins, DryIs, Fine, AnswerIs};
 
 use config::CacheMode;
 use resolving_step::{Next, Walk};
-use room::Room;
-
-// Whether a reply is absent or of the wrong shape.
-pub fn is_wrong(next: Next) -> bool
-    ensures { result ≡ is_wrong next }
-{
-    match next {
-        Next::Plan(_, _) => false,
-        Next::Reply(_, _) => false,
-        Next::Head(_) => false,
-        Next::Keep(_, _, _) => false,
-        Next::Pass => false,
-        Next::Wrong => true,
-    }
-}
 
 // How many bytes a step adds to the answer.
 fn next_size(next: Next) -> usize
@@ -36,11 +21,11 @@ fn next_size(next: Next) -> usize
         Next::Head(n) => decimal::countdigits(n) + 3,
         Next::Keep(_, a, e) => e - a,
         Next::Pass => 0,
-        Next::Wrong => 0,
     }
 }
 
 // What the dry pass finds.
+// Kept: both callers match all three side by side, and store, zero or write by each: no `?` would take one of them further, so a Result is no plainer.
 #[derive(Clone, Copy)]
 pub enum Dry {
     Fits,
@@ -56,27 +41,25 @@ pub fn dry_pass(
     from: Walk,
     mode: CacheMode,
     clock: u64,
-    room: Room,
+    room: Option<usize>,
 ) -> Dry
     requires { Begins plan.now list.now from }
     ensures { DryIs plan.now list.now from mode clock room result }
 {
     let mut c = from;
     let mut r = room;
+    // Kept: a walk is no list: where the next node stands is known only once this one was read, and the walk may end early.
     while c.at < plan.len() {
-        let t = resolving_step::step_at(plan, list, c, mode, clock);
-        let next = t.next;
-        if is_wrong(next) {
+        let Some(t) = resolving_step::step_at(plan, list, c, mode, clock) else {
             return Dry::Wrong;
-        }
-        r = room::spend(r, next_size(next));
-        let d = t.walk;
-        c = d;
+        };
+        r = room::spend(r, next_size(t.next));
+        c = t.walk;
     }
-    if r.short {
-        return Dry::Short;
+    match r {
+        Some(_) => Dry::Fits,
+        None => Dry::Short,
     }
-    Dry::Fits
 }
 
 // Copies what a step hands out to `at`, and answers the place behind it.
@@ -96,14 +79,10 @@ fn write_next<'a>(plan: &'a [u8], list: &'a [u8], next: Next, out: &mut [u8], at
     ensures { (result ≡ at + length (next_bytes plan.now list.now next))
         × (out.new ≡ put out.old at (next_bytes plan.now list.now next)) }
 {
-    match next {
-        Next::Plan(_, _) => copy_element(plan, list, next, out, at),
-        Next::Reply(_, _) => copy_element(plan, list, next, out, at),
-        Next::Head(n) => cmd::write_head(out, at, b'*', n),
-        Next::Keep(_, _, _) => copy_element(plan, list, next, out, at),
-        Next::Pass => at,
-        Next::Wrong => at,
-    }
+    let Next::Head(n) = next else {
+        return copy_element(plan, list, next, out, at);
+    };
+    cmd::write_head(out, at, b'*', n)
 }
 
 // Writes the answers from the walk's place on to `at`, and answers the place behind them.
@@ -121,12 +100,11 @@ pub fn answer_pass<'a>(
 {
     let mut w = from;
     let mut i = at;
+    // Kept: a walk is no list, as in the dry pass. That there is a step is what `Fine` says.
     while w.at < plan.len() {
-        let t = resolving_step::step_at(plan, list, w, mode, clock);
-        let next = t.next;
-        i = write_next(plan, list, next, out, i);
-        let d = t.walk;
-        w = d;
+        let t = resolving_step::step_at(plan, list, w, mode, clock).unwrap();
+        i = write_next(plan, list, t.next, out, i);
+        w = t.walk;
     }
     i
 }

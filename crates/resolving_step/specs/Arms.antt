@@ -1,7 +1,7 @@
 -- Each arm of a step does what the walk does at its node: one law for each way through the code. Assumes nothing.
-use Rattle.std.specs.Prelude.{◌≡◌, refl, ℕ, ◌+◌, ◌-◌, ◌≤◌, ◌<◌, length}
+use Rattle.std.specs.Prelude.{◌≡◌, refl, ℕ, ◌+◌, ◌-◌, ◌≤◌, ◌<◌, length, Option, Some, None}
 use Rattle.std.proofs.Common.{sym, subst, ◌∙◌, arith}
-use Rattle.std.proofs.Math.Option.{Option, some}
+use Rattle.std.proofs.Math.Option.{some}
 use Rattle.std.proofs.Math.Option as option
 use Rattle.buffer.specs.Same.{Bytes}
 use Rattle.buffer.specs.Part.{part}
@@ -9,8 +9,6 @@ use Rattle.buffer.specs.PartLaws.{part-part, length_part}
 use Rattle.config.specs.declared.CacheMode.TheVariants.{OptIn}
 use Rattle.resp3.specs.Value.{Value, Values, none, more, Means}
 use Rattle.resp3_element.specs.declared.Cursor.{Cursor}
-use Rattle.resp3_element.specs.declared.Elements.{Elements}
-use Rattle.resp3_element.specs.declared.Elements.TheVariants.{Of, No}
 use Rattle.resp3_element.specs.Meaning.{array_of, Inside, Stands, Holds}
 use Rattle.resp3_element.specs.CursorLaw.{element-law}
 use Rattle.book.specs.Calls.{Missing}
@@ -21,8 +19,7 @@ use Rattle.resolving_step.specs.declared.Walk.{Walk}
 use Rattle.resolving_step.specs.declared.Missed.{Missed}
 use Rattle.resolving_step.specs.declared.Step.{Step}
 use Rattle.resolving_step.specs.declared.Next.{Next}
-use Rattle.resolving_step.specs.declared.Next.TheVariants.{Plan, Reply, Head, Pass, Wrong}
-use Rattle.resolving_step.specs.declared.Readied.TheVariants.{Go, Stop}
+use Rattle.resolving_step.specs.declared.Next.TheVariants.{Plan, Reply, Head, Pass}
 use Rattle.resolving_step.specs.Steps.{Bounds, Lists, Placed, MissedIs, Fetches, Moved, ReadyFor}
 use Rattle.resolving_step.specs.Says.{reply-says, blank-says, head-says, pass-says}
 
@@ -64,12 +61,12 @@ module _ (p s : Bytes) (b : Bounds p s) where
 
   -- ---- a reply that is handed on
 
-  pub hand-none : (c : Walk) (es rs : Values) → Lists s c es rs → c.reply.left ≡ 0 → Moved p s c (says Wrong c) (hand_move es rs)
-  hand-none c es none h e = refl
+  pub hand-none : (c : Walk) (es rs : Values) → Lists s c es rs → c.reply.left ≡ 0 → Moved p s c None (hand_move es rs)
+  hand-none c es none h e = tt
   hand-none c es (more v rs) h e = none_left s c.reply v rs h.replies e
 
   pub hand-one : (c d : Walk) (q : Cursor) (es rs : Values) → Lists s c es rs → ((c.reply.left ≡ 0) → ⊥) → After s c.reply q → d ≡ with_reply c q
-      → Moved p s c (says (Reply c.reply.at c.reply.end) d) (hand_move es rs)
+      → Moved p s c (Some (says (Reply c.reply.at c.reply.end) d)) (hand_move es rs)
   hand-one c d q es none h e f g = some_left s c.reply h.replies e
   hand-one c d q es (more v rs) h e f g =
       rw g (
@@ -81,14 +78,14 @@ module _ (p s : Bytes) (b : Bounds p s) where
   -- ---- one missing key
 
   pub single-short : (c : Walk) (clock : ℕ) (w : Missing) (es rs : Values) → Lists s c es rs → c.reply.left < 2
-      → Moved p s c (says Wrong c) (single_move clock w es rs)
-  single-short c clock w es none h l = refl
-  single-short c clock w es (more t none) h l = refl
+      → Moved p s c None (single_move clock w es rs)
+  single-short c clock w es none h l = tt
+  single-short c clock w es (more t none) h l = tt
   single-short c clock w es (more t (more v rs)) h l = absurd (omega (arith, h.replies.left))
 
   pub single-both : (c d : Walk) (q r : Cursor) (m : Missed) (clock : ℕ) (n : Next) (w : Missing) (es rs : Values) → MissedIs p m w → Lists s c es rs
       → 2 ≤ c.reply.left → After s c.reply q → After s q r → Fetches s m clock c.reply q.at q.end n → d ≡ with_reply c r
-      → Moved p s c (says n d) (single_move clock w es rs)
+      → Moved p s c (Some (says n d)) (single_move clock w es rs)
   single-both c d q r m clock n w es none u h l f g k z = absurd (omega (arith, h.replies.left))
   single-both c d q r m clock n w es (more t none) u h l f g k z = absurd (omega (arith, h.replies.left))
   single-both c d q r m clock n w es (more t (more v rs)) u h l f g k z =
@@ -101,24 +98,24 @@ module _ (p s : Bytes) (b : Bounds p s) where
 
   -- ---- several keys
 
-  pub several-none : (c : Walk) (n : ℕ) (es rs : Values) → Lists s c es rs → c.reply.left ≡ 0 → Moved p s c (says Wrong c) (several_move n rs)
-  several-none c n es none h e = refl
+  pub several-none : (c : Walk) (n : ℕ) (es rs : Values) → Lists s c es rs → c.reply.left ≡ 0 → Moved p s c None (several_move n rs)
+  several-none c n es none h e = tt
   several-none c n es (more v rs) h e = none_left s c.reply v rs h.replies e
 
   -- x is the reply's bytes
   abbrev pub ReplyIs : Walk → Bytes → Type 0
   ReplyIs c x = (v : Value) (vs : Values) → Stands s c.reply (more v vs) → Means x v
 
-  abbrev pub ArrayIs : Bytes → Elements → Type 0
+  abbrev pub ArrayIs : Bytes → Option Cursor → Type 0
   ArrayIs x r = (v : Value) → Means x v → Holds x r (array_of v)
 
-  pub several-no : (c : Walk) (n : ℕ) (x : Bytes) (es rs : Values) → Lists s c es rs → ReplyIs c x → ArrayIs x No
-      → Moved p s c (says Wrong c) (several_move n rs)
-  several-no c n x es none h f g = refl
+  pub several-no : (c : Walk) (n : ℕ) (x : Bytes) (es rs : Values) → Lists s c es rs → ReplyIs c x → ArrayIs x None
+      → Moved p s c None (several_move n rs)
+  several-no c n x es none h f g = tt
   several-no c n x es (more v rs) h f g = go (array_of v) (g v (f v rs h.replies))
     where
-      go : (o : Option Values) → Holds x No o → Moved p s c (says Wrong c) (array_move n o rs)
-      go option.none k = refl
+      go : (o : option.Option Values) → Holds x None o → Moved p s c None (array_move n o rs)
+      go option.none k = tt
       go (some vs) k = absurd k
 
   -- the walk in the array that the reply is
@@ -126,15 +123,15 @@ module _ (p s : Bytes) (b : Bounds p s) where
   in_array c q first = record { at = c.at; reply = q; from = c.reply.at; to = c.reply.end; element = first }
 
   pub several-of : (c : Walk) (n : ℕ) (x : Bytes) (first q : Cursor) (es rs : Values) → Lists s c es rs → ((c.reply.left ≡ 0) → ⊥) → ReplyIs c x
-      → ArrayIs x (Of first)
-      → After s c.reply q → Moved p s c (says (Head n) (in_array c q first)) (several_move n rs)
+      → ArrayIs x (Some first)
+      → After s c.reply q → Moved p s c (Some (says (Head n) (in_array c q first))) (several_move n rs)
   several-of c n x first q es none h e f g a = some_left s c.reply h.replies e
   several-of c n x first q es (more v rs) h e f g a = go (array_of v) (g v (f v rs h.replies))
     where
       same_bytes : x ≡ part s c.reply.at (c.reply.end - c.reply.at)
       same_bytes = (f v rs h.replies).is ∙ sym (element-means s c.reply v rs h.replies).is
 
-      go : (o : Option Values) → Holds x (Of first) o → Moved p s c (says (Head n) (in_array c q first)) (array_move n o rs)
+      go : (o : option.Option Values) → Holds x (Some first) o → Moved p s c (Some (says (Head n) (in_array c q first))) (array_move n o rs)
       go option.none k = absurd k
       go (some vs) k = (
         head-says p s n,
@@ -164,12 +161,12 @@ module _ (p s : Bytes) (b : Bounds p s) where
       rw e (subst (λ (y : Bytes). Means y v) q (element-means A c.element v vs k))
 
   pub waiting-element : (c : Walk) (clock : ℕ) (w : Missing) (es rs : Values) → Lists s c es rs → c.element.left ≡ 0
-      → Moved p s c (says (Plan null_start null_end) c) (waiting_move clock w es rs)
+      → Moved p s c (Some (says (Plan null_start null_end) c)) (waiting_move clock w es rs)
   waiting-element c clock w none rs h e = (blank-says p s b, h, refl)
   waiting-element c clock w (more v es) rs h e = none_left (part s c.from (c.to - c.from)) c.element v es h.elements e
 
   pub waiting-pttl : (c : Walk) (clock : ℕ) (w : Missing) (es rs : Values) → Lists s c es rs → ((c.element.left ≡ 0) → ⊥) → c.reply.left ≡ 0
-      → Moved p s c (says (Plan null_start null_end) c) (waiting_move clock w es rs)
+      → Moved p s c (Some (says (Plan null_start null_end) c)) (waiting_move clock w es rs)
   waiting-pttl c clock w none rs h k e = (blank-says p s b, h, refl)
   waiting-pttl c clock w (more v es) none h k e = (blank-says p s b, h, refl)
   waiting-pttl c clock w (more v es) (more t rs) h k e = none_left s c.reply t rs h.replies e
@@ -177,7 +174,7 @@ module _ (p s : Bytes) (b : Bounds p s) where
   pub waiting-both : (c : Walk) (q r : Cursor) (m : Missed) (clock : ℕ) (n : Next) (w : Missing) (es rs : Values) → MissedIs p m w → Lists s c es rs
       → ((c.element.left ≡ 0) → ⊥) → ((c.reply.left ≡ 0) → ⊥) → After (part s c.from (c.to - c.from)) c.element q → After s c.reply r
       → Fetches s m clock c.reply (c.from + c.element.at) (c.from + c.element.end) n
-      → Moved p s c (says n (record { at = c.at; reply = r; from = c.from; to = c.to; element = q })) (waiting_move clock w es rs)
+      → Moved p s c (Some (says n (record { at = c.at; reply = r; from = c.from; to = c.to; element = q }))) (waiting_move clock w es rs)
   waiting-both c q r m clock n w none rs u h e i f g k = some_left (part s c.from (c.to - c.from)) c.element h.elements e
   waiting-both c q r m clock n w (more v es) none u h e i f g k = some_left s c.reply h.replies i
   waiting-both c q r m clock n w (more v es) (more t rs) u h e i f g k = (
@@ -195,18 +192,18 @@ module _ (p s : Bytes) (b : Bounds p s) where
   over-lists : (c : Walk) (es rs : Values) → Lists s c es rs → Lists s (over c) none rs
   over-lists c es rs h = record { replies = h.replies; order = omega arith; within = omega arith; elements = empty_stands s }
 
-  pub ends-element : (c : Walk) (es rs : Values) → Lists s c es rs → c.element.left ≡ 0 → Moved p s c (says Pass (over c)) (move nothing none (eaten es rs))
+  pub ends-element : (c : Walk) (es rs : Values) → Lists s c es rs → c.element.left ≡ 0 → Moved p s c (Some (says Pass (over c))) (move nothing none (eaten es rs))
   ends-element c none rs h e = (pass-says p s, over-lists c none rs h, refl)
   ends-element c (more v es) rs h e = none_left (part s c.from (c.to - c.from)) c.element v es h.elements e
 
-  pub ends-pttl : (c : Walk) (es rs : Values) → Lists s c es rs → c.reply.left ≡ 0 → Moved p s c (says Pass (over c)) (move nothing none (eaten es rs))
+  pub ends-pttl : (c : Walk) (es rs : Values) → Lists s c es rs → c.reply.left ≡ 0 → Moved p s c (Some (says Pass (over c))) (move nothing none (eaten es rs))
   ends-pttl c none rs h e = (pass-says p s, over-lists c none rs h, refl)
   ends-pttl c (more v es) none h e = (pass-says p s, over-lists c (more v es) none h, refl)
   ends-pttl c (more v es) (more t rs) h e = none_left s c.reply t rs h.replies e
 
   pub ends-both : (c d : Walk) (q : Cursor) (es rs : Values) → Lists s c es rs → ((c.element.left ≡ 0) → ⊥) → ((c.reply.left ≡ 0) → ⊥)
       → After s c.reply q
-      → d ≡ with_reply (over c) q → Moved p s c (says Pass d) (move nothing none (eaten es rs))
+      → d ≡ with_reply (over c) q → Moved p s c (Some (says Pass d)) (move nothing none (eaten es rs))
   ends-both c d q none rs h e i f g = some_left (part s c.from (c.to - c.from)) c.element h.elements e
   ends-both c d q (more v es) none h e i f g = some_left s c.reply h.replies i
   ends-both c d q (more v es) (more t rs) h e i f g =
@@ -214,12 +211,12 @@ module _ (p s : Bytes) (b : Bounds p s) where
 
 -- ---- opt-in
 
-pub ready-stop : (s : Bytes) (c : Walk) (es rs : Values) → Lists s c es rs → c.reply.left ≡ 0 → ReadyFor s c es OptIn rs Stop
+pub ready-stop : (s : Bytes) (c : Walk) (es rs : Values) → Lists s c es rs → c.reply.left ≡ 0 → ReadyFor s c es OptIn rs None
 ready-stop s c es none h e = tt
 ready-stop s c es (more v rs) h e = none_left s c.reply v rs h.replies e
 
 pub ready-go : (s : Bytes) (c d : Walk) (q : Cursor) (es rs : Values) → Lists s c es rs → ((c.reply.left ≡ 0) → ⊥) → After s c.reply q → d ≡ with_reply c q
-    → ReadyFor s c es OptIn rs (Go d)
+    → ReadyFor s c es OptIn rs (Some d)
 ready-go s c d q es none h e f g = some_left s c.reply h.replies e
 ready-go s c d q es (more v rs) h e f g =
     rw g (record { replies = f v rs h.replies; order = h.order; within = h.within; elements = h.elements }, refl)

@@ -1,5 +1,5 @@
 -- The step at a plan's node is the walk's. Assumes nothing.
-use Rattle.std.specs.Prelude.{◌≡◌, refl, List, ◌∷◌, ℕ, ◌+◌, ◌-◌, ◌≤◌, length, drop}
+use Rattle.std.specs.Prelude.{◌≡◌, refl, Option, None, Some, Result, Ok, Err, List, ◌∷◌, ℕ, ◌+◌, ◌-◌, ◌≤◌, length, drop}
 use Rattle.std.proofs.Common.{sym, ap, ◌∙◌, arith}
 use Rattle.buffer.specs.Same.{Bytes}
 use Rattle.config.specs.declared.CacheMode.{CacheMode}
@@ -8,7 +8,12 @@ use Rattle.format.specs.Lists.{enc_all}
 use Rattle.resp3.specs.Value.{Values, none, more}
 use Rattle.book.specs.Calls.{Wanted, missing_until}
 use Rattle.planning.specs.Plan.{Node, hand_on, served_value, all_served, missing_key, several, waiting_place, end_of_several, enc_node}
-use Rattle.planning.specs.Plan.{hand_on_kind, served_kind, all_served_kind, missing_kind, several_kind, waiting_kind, end_kind}
+use Rattle.planning.specs.Plan.{missing_kind, several_kind}
+use Rattle.std.specs.Result.{result_ok}
+use Rattle.planning.specs.Kinds.{number_of_kind, kind_of_number, kind_found, kind_is}
+use Rattle.planning.specs.declared.NodeKind.{NodeKind}
+use Rattle.planning.specs.declared.NodeKind.TheVariants.{HandOn, Served, AllServed, Missing as MissingKind, Several, Waiting, End}
+use Rattle.planning.specs.declared.UnknownKind.{UnknownKind}
 use Rattle.planning.specs.Rules.{GoodNode}
 use Rattle.plan.specs.declared.NodeHead.{NodeHead}
 use Rattle.plan.specs.Head.{head_at, HeadIn}
@@ -17,27 +22,19 @@ use Rattle.plan.specs.There.{head_of, node_law}
 use Rattle.resolving_walk.proofs.NodesLaws.{asked}
 use Rattle.resolving_walk.specs.Walk.{Move, stop, move, opted, single_move, several_move, node_move}
 use Rattle.resolving_step.specs.declared.Walk.{Walk}
-use Rattle.resolving_step.specs.declared.Missed.{Missed}
 use Rattle.resolving_step.specs.declared.Step.{Step}
-use Rattle.resolving_step.specs.declared.Next.TheVariants.{Plan, Head, Wrong}
-use Rattle.resolving_step.specs.declared.Readied.TheVariants.{Go, Stop}
+use Rattle.resolving_step.specs.declared.Next.TheVariants.{Plan, Head}
 use Rattle.resolving_step.specs.Steps.{Bounds, Lists, Placed, At, MissedIs, Moved, HandsOn, ReadyFor, Readies, TakesSingle, TakesSeveral, Waits}
-use Rattle.resolving_step.specs.Steps.{Ends, HeadFor, OnNode, OnMissing, Does, StepIs}
+use Rattle.resolving_step.specs.Steps.{missed_of, Ends, HeadFor, OnNode, Does, StepIs}
 use Rattle.resolving_step.specs.Says.{plan-says, head-says}
 use Rattle.resolving_step.specs.Arms.{says}
 
--- a missing key's places, from its head
-abbrev pub missed_of : NodeHead → Missed
-missed_of n = record { key = n.first; command = n.second; end = n.end; expiry = n.number }
-
 -- a step from another place at the same node
-at_same : (p s : Bytes) (c d : Walk) (r : Step) (v : Move) → d.at ≡ c.at → Moved p s d r v → Moved p s c r v
-at_same p s c d r stop e k = k
-at_same p s c d r (move g es rs) e k = (k.0, k.1, k.2 ∙ e)
-
--- a node of another kind
-no_kind : {A : Type 0} (k m : ℕ) → k ≡ m → ((k ≡ m) → ⊥) → A
-no_kind k m e f = absurd (f e)
+at_same : (p s : Bytes) (c d : Walk) (r : Option Step) (v : Move) → d.at ≡ c.at → Moved p s d r v → Moved p s c r v
+at_same p s c d None stop e k = k
+at_same p s c d None (move g es rs) e k = k
+at_same p s c d (Some r) stop e k = k
+at_same p s c d (Some r) (move g es rs) e k = (k.0, k.1, k.2 ∙ e)
 
 module _ (p s : Bytes) (b : Bounds p s) (c : Walk) (n : NodeHead) where
   -- the key of a missing node
@@ -66,92 +63,105 @@ module _ (p s : Bytes) (b : Bounds p s) (c : Walk) (n : NodeHead) where
 
   -- ---- by the node's kind
 
-  module _ (mode : CacheMode) (clock : ℕ) (r : Step) where
-    pub on-hand : n.kind ≡ hand_on_kind → HandsOn s c r → (nd : Node) (es rs : Values) → HeadFor p n nd → Lists s c es rs
+  -- it has a kind
+  some_kind : (nd : Node) → result_ok (kind_of_number (kind_of nd)) ≡ None → ⊥
+  unfolding node-defs kind_of_number
+  some_kind hand_on e = let z : ◌≡◌ {A = ℕ} 0 1 = cc in omega arith
+  some_kind (served_value v) e = let z : ◌≡◌ {A = ℕ} 0 1 = cc in omega arith
+  some_kind (all_served m) e = let z : ◌≡◌ {A = ℕ} 0 1 = cc in omega arith
+  some_kind (missing_key w x) e = let z : ◌≡◌ {A = ℕ} 0 1 = cc in omega arith
+  some_kind (several m) e = let z : ◌≡◌ {A = ℕ} 0 1 = cc in omega arith
+  some_kind (waiting_place w x) e = let z : ◌≡◌ {A = ℕ} 0 1 = cc in omega arith
+  some_kind end_of_several e = let z : ◌≡◌ {A = ℕ} 0 1 = cc in omega arith
+
+  pub no-kind : (o : Option NodeKind) (nd : Node) → HeadFor p n nd → o ≡ result_ok n.kind → o ≡ None → ⊥
+  no-kind o nd h q e = some_kind nd (ap (λ (k : Result NodeKind UnknownKind). result_ok k) (sym h.kind) ∙ sym q ∙ e)
+
+  pub one-kind : (o : Option NodeKind) (k : NodeKind) → o ≡ result_ok n.kind → o ≡ Some k → n.kind ≡ Ok k
+  one-kind o k q e = go n.kind (sym q ∙ e)
+    where
+      go : (r : Result NodeKind UnknownKind) → result_ok r ≡ Some k → r ≡ Ok k
+      go (Ok j) i = let z : j ≡ k = cc in ap Ok z
+      go (Err x) i = absurd (let z : ◌≡◌ {A = ℕ} 0 1 = cc in omega arith)
+
+  -- one key is not several
+  pub missing-one : n.kind ≡ Ok MissingKind → n.kind ≡ Ok Several → ⊥
+  missing-one e f = let z : ◌≡◌ {A = Result NodeKind UnknownKind} (Ok MissingKind) (Ok Several) = sym e ∙ f in let y : ◌≡◌ {A = ℕ} 0 1 = cc in omega arith
+
+  -- a head's kind is its node's
+  pub kind-says : (k : NodeKind) (nd : Node) → HeadFor p n nd → n.kind ≡ Ok k → kind_of nd ≡ number_of_kind k
+  kind-says k nd h e = kind_is (kind_of nd) k (sym h.kind ∙ e)
+
+  module _ (mode : CacheMode) (clock : ℕ) (r : Option Step) where
+    pub on-hand : n.kind ≡ Ok HandOn → HandsOn s c r → (nd : Node) (es rs : Values) → HeadFor p n nd → Lists s c es rs
         → Moved p s c r (node_move mode clock nd es rs)
     unfolding node-defs node_move
     on-hand k f hand_on es rs h l = f p es rs b l
-    on-hand k f (served_value v) es rs h l = absurd (omega (arith, h.kind))
-    on-hand k f (all_served m) es rs h l = absurd (omega (arith, h.kind))
-    on-hand k f (missing_key w x) es rs h l = absurd (omega (arith, h.kind))
-    on-hand k f (several m) es rs h l = absurd (omega (arith, h.kind))
-    on-hand k f (waiting_place w x) es rs h l = absurd (omega (arith, h.kind))
-    on-hand k f end_of_several es rs h l = absurd (omega (arith, h.kind))
+    on-hand k f (served_value v) es rs h l = absurd (omega (arith, kind-says HandOn _ h k))
+    on-hand k f (all_served m) es rs h l = absurd (omega (arith, kind-says HandOn _ h k))
+    on-hand k f (missing_key w x) es rs h l = absurd (omega (arith, kind-says HandOn _ h k))
+    on-hand k f (several m) es rs h l = absurd (omega (arith, kind-says HandOn _ h k))
+    on-hand k f (waiting_place w x) es rs h l = absurd (omega (arith, kind-says HandOn _ h k))
+    on-hand k f end_of_several es rs h l = absurd (omega (arith, kind-says HandOn _ h k))
 
-    pub on_value : n.kind ≡ served_kind → r ≡ says (Plan n.first n.second) c → (nd : Node) (es rs : Values) → HeadFor p n nd → Lists s c es rs
+    pub on_value : n.kind ≡ Ok Served → r ≡ Some (says (Plan n.first n.second) c) → (nd : Node) (es rs : Values) → HeadFor p n nd → Lists s c es rs
         → Moved p s c r (node_move mode clock nd es rs)
     unfolding node-defs node_move
-    on_value k f hand_on es rs h l = absurd (omega (arith, h.kind))
+    on_value k f hand_on es rs h l = absurd (omega (arith, kind-says Served _ h k))
     on_value k f (served_value v) es rs h l = rw f (plan-says p s n.first n.second v h.order (omega (arith, h.between, h.within)) h.first, l, refl)
-    on_value k f (all_served m) es rs h l = absurd (omega (arith, h.kind))
-    on_value k f (missing_key w x) es rs h l = absurd (omega (arith, h.kind))
-    on_value k f (several m) es rs h l = absurd (omega (arith, h.kind))
-    on_value k f (waiting_place w x) es rs h l = absurd (omega (arith, h.kind))
-    on_value k f end_of_several es rs h l = absurd (omega (arith, h.kind))
+    on_value k f (all_served m) es rs h l = absurd (omega (arith, kind-says Served _ h k))
+    on_value k f (missing_key w x) es rs h l = absurd (omega (arith, kind-says Served _ h k))
+    on_value k f (several m) es rs h l = absurd (omega (arith, kind-says Served _ h k))
+    on_value k f (waiting_place w x) es rs h l = absurd (omega (arith, kind-says Served _ h k))
+    on_value k f end_of_several es rs h l = absurd (omega (arith, kind-says Served _ h k))
 
-    pub on-all : n.kind ≡ all_served_kind → r ≡ says (Head n.number) c → (nd : Node) (es rs : Values) → HeadFor p n nd → Lists s c es rs
+    pub on-all : n.kind ≡ Ok AllServed → r ≡ Some (says (Head n.number) c) → (nd : Node) (es rs : Values) → HeadFor p n nd → Lists s c es rs
         → Moved p s c r (node_move mode clock nd es rs)
     unfolding node-defs node_move
-    on-all k f hand_on es rs h l = absurd (omega (arith, h.kind))
-    on-all k f (served_value v) es rs h l = absurd (omega (arith, h.kind))
+    on-all k f hand_on es rs h l = absurd (omega (arith, kind-says AllServed _ h k))
+    on-all k f (served_value v) es rs h l = absurd (omega (arith, kind-says AllServed _ h k))
     on-all k f (all_served m) es rs h l = rw (f, h.number) (head-says p s m, l, refl)
-    on-all k f (missing_key w x) es rs h l = absurd (omega (arith, h.kind))
-    on-all k f (several m) es rs h l = absurd (omega (arith, h.kind))
-    on-all k f (waiting_place w x) es rs h l = absurd (omega (arith, h.kind))
-    on-all k f end_of_several es rs h l = absurd (omega (arith, h.kind))
+    on-all k f (missing_key w x) es rs h l = absurd (omega (arith, kind-says AllServed _ h k))
+    on-all k f (several m) es rs h l = absurd (omega (arith, kind-says AllServed _ h k))
+    on-all k f (waiting_place w x) es rs h l = absurd (omega (arith, kind-says AllServed _ h k))
+    on-all k f end_of_several es rs h l = absurd (omega (arith, kind-says AllServed _ h k))
 
-    pub on-waiting : n.kind ≡ waiting_kind → Waits s c (missed_of n) clock r → (nd : Node) (es rs : Values) → HeadFor p n nd → Lists s c es rs
+    pub on-waiting : n.kind ≡ Ok Waiting → (w : Step) → r ≡ Some w → Waits s c (missed_of n) clock w → (nd : Node) (es rs : Values) → HeadFor p n nd → Lists s c es rs
         → Moved p s c r (node_move mode clock nd es rs)
     unfolding node-defs node_move
-    on-waiting k f hand_on es rs h l = absurd (omega (arith, h.kind))
-    on-waiting k f (served_value v) es rs h l = absurd (omega (arith, h.kind))
-    on-waiting k f (all_served m) es rs h l = absurd (omega (arith, h.kind))
-    on-waiting k f (missing_key w x) es rs h l = absurd (omega (arith, h.kind))
-    on-waiting k f (several m) es rs h l = absurd (omega (arith, h.kind))
-    on-waiting k f (waiting_place w x) es rs h l = f p (missing_until x w) es rs b (waiting-is w x h) l
-    on-waiting k f end_of_several es rs h l = absurd (omega (arith, h.kind))
+    on-waiting k u q f hand_on es rs h l = absurd (omega (arith, kind-says Waiting _ h k))
+    on-waiting k u q f (served_value v) es rs h l = absurd (omega (arith, kind-says Waiting _ h k))
+    on-waiting k u q f (all_served m) es rs h l = absurd (omega (arith, kind-says Waiting _ h k))
+    on-waiting k u q f (missing_key w x) es rs h l = absurd (omega (arith, kind-says Waiting _ h k))
+    on-waiting k u q f (several m) es rs h l = absurd (omega (arith, kind-says Waiting _ h k))
+    on-waiting k u q f (waiting_place w x) es rs h l = rw q (f p (missing_until x w) es rs b (waiting-is w x h) l)
+    on-waiting k u q f end_of_several es rs h l = absurd (omega (arith, kind-says Waiting _ h k))
 
-    pub on-end : n.kind ≡ end_kind → Ends s c r → (nd : Node) (es rs : Values) → HeadFor p n nd → Lists s c es rs → Moved p s c r (node_move mode clock nd es rs)
+    pub on-end : n.kind ≡ Ok End → (w : Step) → r ≡ Some w → Ends s c w → (nd : Node) (es rs : Values) → HeadFor p n nd → Lists s c es rs → Moved p s c r (node_move mode clock nd es rs)
     unfolding node-defs node_move
-    on-end k f hand_on es rs h l = absurd (omega (arith, h.kind))
-    on-end k f (served_value v) es rs h l = absurd (omega (arith, h.kind))
-    on-end k f (all_served m) es rs h l = absurd (omega (arith, h.kind))
-    on-end k f (missing_key w x) es rs h l = absurd (omega (arith, h.kind))
-    on-end k f (several m) es rs h l = absurd (omega (arith, h.kind))
-    on-end k f (waiting_place w x) es rs h l = absurd (omega (arith, h.kind))
-    on-end k f end_of_several es rs h l = f p es rs b l
-
-    -- none of these is a missing command's
-    abbrev pub Late : Type 0
-    Late = ((n.kind ≡ hand_on_kind) → ⊥) × ((n.kind ≡ served_kind) → ⊥) × ((n.kind ≡ all_served_kind) → ⊥) × ((n.kind ≡ waiting_kind) → ⊥)
-        × ((n.kind ≡ end_kind) → ⊥)
-
-    pub on-missing : Late → OnMissing s c n mode clock r → (nd : Node) (es rs : Values) → HeadFor p n nd → Lists s c es rs
-        → Moved p s c r (node_move mode clock nd es rs)
-    unfolding node-defs
-    on-missing k f hand_on es rs h l = no_kind _ _ h.kind k.0
-    on-missing k f (served_value v) es rs h l = no_kind _ _ h.kind k.1
-    on-missing k f (all_served m) es rs h l = no_kind _ _ h.kind k.2
-    on-missing k f (missing_key w x) es rs h l = f p (missing_key w x) es rs b h (omega arith) (omega arith) l
-    on-missing k f (several m) es rs h l = f p (several m) es rs b h (omega arith) (omega arith) l
-    on-missing k f (waiting_place w x) es rs h l = no_kind _ _ h.kind k.3
-    on-missing k f end_of_several es rs h l = no_kind _ _ h.kind k.4
+    on-end k u q f hand_on es rs h l = absurd (omega (arith, kind-says End _ h k))
+    on-end k u q f (served_value v) es rs h l = absurd (omega (arith, kind-says End _ h k))
+    on-end k u q f (all_served m) es rs h l = absurd (omega (arith, kind-says End _ h k))
+    on-end k u q f (missing_key w x) es rs h l = absurd (omega (arith, kind-says End _ h k))
+    on-end k u q f (several m) es rs h l = absurd (omega (arith, kind-says End _ h k))
+    on-end k u q f (waiting_place w x) es rs h l = absurd (omega (arith, kind-says End _ h k))
+    on-end k u q f end_of_several es rs h l = rw q (f p es rs b l)
 
     -- ---- a missing command
 
     -- after the reply that opt-in drops, the walk stands at the same node
-    opted-move : (m : CacheMode) (rs : Values) (es : Values) (d : Walk) (f : Values → Move) → ReadyFor s c es m rs (Go d)
+    opted-move : (m : CacheMode) (rs : Values) (es : Values) (d : Walk) (f : Values → Move) → ReadyFor s c es m rs (Some d)
         → ((q : Values) → Lists s d es q → Moved p s d r (f q)) → Moved p s c r (opted m rs f)
     opted-move All rs es d f h g = at_same p s c d r (f rs) h.1 (g rs h.0)
     opted-move OptIn none es d f h g = absurd h
     opted-move OptIn (more v rs) es d f h g = at_same p s c d r (f rs) h.1 (g rs h.0)
 
-    stop-move : (m : CacheMode) (rs : Values) (es : Values) (f : Values → Move) → ReadyFor s c es m rs Stop → r.next ≡ Wrong → Moved p s c r (opted m rs f)
+    stop-move : (m : CacheMode) (rs : Values) (es : Values) (f : Values → Move) → ReadyFor s c es m rs None → r ≡ None → Moved p s c r (opted m rs f)
     stop-move All rs es f h e = absurd h
-    stop-move OptIn none es f h e = e
+    stop-move OptIn none es f h e = rw e tt
     stop-move OptIn (more v rs) es f h e = absurd h
 
-    pub missing-stop : Readies s c mode Stop → r.next ≡ Wrong → (nd : Node) (es rs : Values) → HeadFor p n nd
+    pub missing-stop : Readies s c mode None → r ≡ None → (nd : Node) (es rs : Values) → HeadFor p n nd
         → missing_kind ≤ kind_of nd → kind_of nd ≤ several_kind → Lists s c es rs
         → Moved p s c r (node_move mode clock nd es rs)
     unfolding node-defs node_move
@@ -163,20 +173,20 @@ module _ (p s : Bytes) (b : Bounds p s) (c : Walk) (n : NodeHead) where
     missing-stop f e (waiting_place w x) es rs h i j l = absurd (omega arith)
     missing-stop f e end_of_several es rs h i j l = absurd (omega arith)
 
-    pub missing-several : (d : Walk) → Readies s c mode (Go d) → n.kind ≡ several_kind → TakesSeveral s d n.number r
+    pub missing-several : (d : Walk) → Readies s c mode (Some d) → n.kind ≡ Ok Several → TakesSeveral s d n.number r
         → (nd : Node) (es rs : Values) → HeadFor p n nd → missing_kind ≤ kind_of nd → kind_of nd ≤ several_kind → Lists s c es rs
         → Moved p s c r (node_move mode clock nd es rs)
     unfolding node-defs node_move
     missing-several d f k t hand_on es rs h i j l = absurd (omega arith)
     missing-several d f k t (served_value v) es rs h i j l = absurd (omega arith)
     missing-several d f k t (all_served m) es rs h i j l = absurd (omega arith)
-    missing-several d f k t (missing_key w x) es rs h i j l = absurd (omega (arith, h.kind))
+    missing-several d f k t (missing_key w x) es rs h i j l = absurd (omega (arith, kind-says Several _ h k))
     missing-several d f k t (several m) es rs h i j l =
         opted-move mode rs es d (λ q. several_move m q) (f es rs l) (λ q g. rw h.number at (t p es q b g))
     missing-several d f k t (waiting_place w x) es rs h i j l = absurd (omega arith)
     missing-several d f k t end_of_several es rs h i j l = absurd (omega arith)
 
-    pub missing-single : (d : Walk) → Readies s c mode (Go d) → ((n.kind ≡ several_kind) → ⊥) → TakesSingle s d (missed_of n) clock r
+    pub missing-single : (d : Walk) → Readies s c mode (Some d) → ((n.kind ≡ Ok Several) → ⊥) → TakesSingle s d (missed_of n) clock r
         → (nd : Node) (es rs : Values) → HeadFor p n nd → missing_kind ≤ kind_of nd → kind_of nd ≤ several_kind → Lists s c es rs
         → Moved p s c r (node_move mode clock nd es rs)
     unfolding node-defs node_move
@@ -185,15 +195,15 @@ module _ (p s : Bytes) (b : Bounds p s) (c : Walk) (n : NodeHead) where
     missing-single d f k t (all_served m) es rs h i j l = absurd (omega arith)
     missing-single d f k t (missing_key w x) es rs h i j l =
         opted-move mode rs es d (λ q. single_move clock (missing_until x w) es q) (f es rs l) (λ q g. t p (missing_until x w) es q b (missed-is w x h) g)
-    missing-single d f k t (several m) es rs h i j l = no_kind _ _ h.kind k
+    missing-single d f k t (several m) es rs h i j l = absurd (k (h.kind ∙ kind_found Several))
     missing-single d f k t (waiting_place w x) es rs h i j l = absurd (omega arith)
     missing-single d f k t end_of_several es rs h i j l = absurd (omega arith)
 
 -- some lists are left after the reply that opt-in drops
-pub ready-placed : (s : Bytes) (c d : Walk) (mode : CacheMode) → Placed s c → Readies s c mode (Go d) → Placed s d
+pub ready-placed : (s : Bytes) (c d : Walk) (mode : CacheMode) → Placed s c → Readies s c mode (Some d) → Placed s d
 ready-placed s c d mode a f = go mode a.rs (f a.es a.rs a.lists)
   where
-    go : (m : CacheMode) (rs : Values) → ReadyFor s c a.es m rs (Go d) → Placed s d
+    go : (m : CacheMode) (rs : Values) → ReadyFor s c a.es m rs (Some d) → Placed s d
     go All rs h = record { es = a.es; rs = rs; lists = h.0 }
     go OptIn none h = absurd h
     go OptIn (more v rs) h = record { es = a.es; rs = rs; lists = h.0 }
@@ -227,21 +237,23 @@ head_in p s c nd ns es rs g h = (node_law p c.at nd (enc_all enc_node ns) (recor
 abbrev pub behind_node : Walk → NodeHead → Walk
 behind_node c n = record { at = n.end; reply = c.reply; from = c.from; to = c.to; element = c.element }
 
-pub step-law : (p s : Bytes) (c : Walk) (n : NodeHead) (mode : CacheMode) (clock : ℕ) (r : Step) → n ≡ head_at p c.at
+pub step-law : (p s : Bytes) (c : Walk) (n : NodeHead) (mode : CacheMode) (clock : ℕ) (r : Option Step) → n ≡ head_at p c.at
     → OnNode s (behind_node c n) n mode clock r
     → StepIs p s c mode clock r
 unfolding head_of
 step-law p s c n mode clock r e f nd ns es rs b g h =
-    go (node_move mode clock nd es rs)
+    go r (node_move mode clock nd es rs)
     (f p nd es rs b (rw (sym e) at (head-for p s c nd ns es rs g h))
     (record { replies = h.lists.replies; order = h.lists.order; within = h.lists.within; elements = h.lists.elements }))
   where
     ends : n.end ≡ c.at + 20 + length (first_of nd) + length (second_of nd)
     ends = ap (λ (k : NodeHead). k.end) (e ∙ (node_law p c.at nd (enc_all enc_node ns) (record { good = g; is = h.nodes })).head)
 
-    go : (v : Move) → Moved p s (behind_node c n) r v → Does p s ns r v
-    go stop k = k
-    go (move x es rs) k =
+    go : (o : Option Step) (v : Move) → Moved p s (behind_node c n) o v → Does p s ns o v
+    go None stop k = k
+    go None (move x es rs) k = k
+    go (Some w) stop k = k
+    go (Some w) (move x es rs) k =
         let t = node_law p c.at nd (enc_all enc_node ns) (record { good = g; is = h.nodes }) in
-        let z : r.walk.at ≡ c.at + 20 + length (first_of nd) + length (second_of nd) = k.2 ∙ ends in
+        let z : w.walk.at ≡ c.at + 20 + length (first_of nd) + length (second_of nd) = k.2 ∙ ends in
         (k.0, record { nodes = ap (λ (i : ℕ). drop i p) z ∙ t.rest; here = omega (arith, t.long); lists = k.1 })

@@ -7,12 +7,13 @@ ghost use Rattle.std.specs.Prelude.{◌≡◌, ◌+◌, ◌≤◌, min, length};
 ghost use Rattle.resp3_element.specs.Meaning.{Inside};
 ghost use Rattle.plan.specs.Head.{HeadIn};
 ghost use Rattle.resolving.specs.Store.{expiry_of};
-ghost use Rattle.resolving_step.specs.Steps.{Fetches, Placed, HandsOn, Readies, TakesSingle, TakesSeveral, Waits, Ends, OnNode, StepIs, OnMissing};
+ghost use Rattle.resolving_step.specs.Steps.{missed_of, Fetches, Placed, HandsOn, Readies, TakesSingle, TakesSeveral, Waits, Ends, OnNode, StepIs};
 ghost use Rattle.resolving_step.specs.Steps.{element_bytes, holder_of, element_start, NextIn};
 
 use config::CacheMode;
 use plan::NodeHead;
-use resp3_element::{Cursor, Elements, Integer};
+use planning::NodeKind;
+use resp3_element::Cursor;
 
 // Where the walk stands: at a node, at a reply, and at an element of the array that stands in the list from `from` up to `to`.
 #[derive(Clone, Copy)]
@@ -33,7 +34,21 @@ pub struct Missed {
     pub expiry: u64,
 }
 
+impl From<NodeHead> for Missed {
+    ghost from_gives = { λ n m. m ≡ missed_of n };
+
+    fn from(n: NodeHead) -> Missed {
+        Missed {
+            key: n.first,
+            command: n.second,
+            end: n.end,
+            expiry: n.number,
+        }
+    }
+}
+
 // What comes next in the answer.
+// Kept: pairs of places are no plainer as `cursor::Range`: resolving stands on no crate of the call record, and would for this type alone.
 #[derive(Clone, Copy)]
 pub enum Next {
     // These bytes of the plan.
@@ -46,21 +61,13 @@ pub enum Next {
     Keep(Missed, usize, usize),
     // Nothing.
     Pass,
-    // A reply is absent, or of the wrong shape.
-    Wrong,
 }
 
+// A step. Where a reply is absent, or of the wrong shape, there is none.
 #[derive(Clone, Copy)]
 pub struct Step {
     pub next: Next,
     pub walk: Walk,
-}
-
-// After the reply that opt-in drops, where it drops one.
-#[derive(Clone, Copy)]
-enum Readied {
-    Go(Walk),
-    Stop,
 }
 
 // The smaller of clock + n and the client's expiry.
@@ -77,10 +84,10 @@ fn sooner(clock: u64, client: u64, n: u64) -> u64
 }
 
 // Until when a reply with this PTTL is stored.
-pub fn expire_time(clock: u64, client: u64, pttl: Integer) -> u64
+pub fn expire_time(clock: u64, client: u64, pttl: Option<i64>) -> u64
     ensures { result ≡ expiry_of clock client pttl }
 {
-    let Integer::Is(t) = pttl else {
+    let Some(t) = pttl else {
         return client;
     };
     if t <= 0 {
@@ -126,79 +133,69 @@ fn with_reply(c: Walk, reply: Cursor) -> Walk
 }
 
 // A command whose reply is handed on.
-fn hand_on(list: &[u8], c: Walk) -> Step
+fn hand_on(list: &[u8], c: Walk) -> Option<Step>
     ensures { HandsOn list.now c result }
 {
     let at = c.reply;
     if at.left == 0 {
-        return Step {
-            next: Next::Wrong,
-            walk: c,
-        };
+        return None;
     }
     let rest = resp3_element::next(list, at);
-    Step {
+    Some(Step {
         next: Next::Reply(at.at, at.end),
         walk: with_reply(c, rest),
-    }
+    })
 }
 
 // In opt-in mode a missing command first drops one reply.
-fn drop_reply(list: &[u8], c: Walk, mode: CacheMode) -> Readied
+fn drop_reply(list: &[u8], c: Walk, mode: CacheMode) -> Option<Walk>
     ensures { Readies list.now c mode result }
 {
     match mode {
-        CacheMode::All => Readied::Go(c),
+        CacheMode::All => Some(c),
         CacheMode::OptIn => {
             let at = c.reply;
             if at.left == 0 {
-                return Readied::Stop;
+                return None;
             }
             let rest = resp3_element::next(list, at);
-            Readied::Go(with_reply(c, rest))
+            Some(with_reply(c, rest))
         }
     }
 }
 
 // One missing key: its PTTL, then its reply.
-fn single(list: &[u8], c: Walk, m: Missed, clock: u64) -> Step
+fn single(list: &[u8], c: Walk, m: Missed, clock: u64) -> Option<Step>
     requires { Placed list.now c }
     ensures { TakesSingle list.now c m clock result }
 {
     let pttl = c.reply;
     if pttl.left < 2 {
-        return Step {
-            next: Next::Wrong,
-            walk: c,
-        };
+        return None;
     }
     let reply = resp3_element::next(list, pttl);
     let rest = resp3_element::next(list, reply);
     let next = fetched(list, m, clock, pttl, reply.at, reply.end);
-    Step {
+    Some(Step {
         next,
         walk: with_reply(c, rest),
-    }
+    })
 }
 
 // The head of several keys: a reply that is an array.
-fn several(list: &[u8], c: Walk, n: u64) -> Step
+fn several(list: &[u8], c: Walk, n: u64) -> Option<Step>
     requires { Placed list.now c }
     ensures { TakesSeveral list.now c n result }
 {
-    let wrong = Step {
-        next: Next::Wrong,
-        walk: c,
-    };
     let at = c.reply;
     if at.left == 0 {
-        return wrong;
+        return None;
     }
-    let Elements::Of(first) = resp3_element::array(resp3_element::element(list, at)) else {
-        return wrong;
+    let Some(first) = resp3_element::array(resp3_element::element(list, at)) else {
+        return None;
     };
     let rest = resp3_element::next(list, at);
-    Step {
+    Some(Step {
         next: Next::Head(n),
         walk: Walk {
             at: c.at,
@@ -207,7 +204,7 @@ fn several(list: &[u8], c: Walk, n: u64) -> Step
             to: at.end,
             element: first,
         },
-    }
+    })
 }
 
 // A place that waits for its key: an element, then a PTTL; where one is absent it stays `_`.
@@ -281,66 +278,30 @@ fn ended(list: &[u8], c: Walk) -> Step
     }
 }
 
-// A missing command, one key or several, once opt-in has dropped its reply.
-fn missing(list: &[u8], c: Walk, n: NodeHead, mode: CacheMode, clock: u64) -> Step
-    requires { Placed list.now c }
-    ensures { OnMissing list.now c n mode clock result }
-{
-    let Readied::Go(d) = drop_reply(list, c, mode) else {
-        return Step {
-            next: Next::Wrong,
-            walk: c,
-        };
-    };
-    if n.kind == planning::NODE_SEVERAL {
-        return several(list, d, n.number);
-    }
-    let m = Missed {
-        key: n.first,
-        command: n.second,
-        end: n.end,
-        expiry: n.number,
-    };
-    single(list, d, m, clock)
-}
-
-// The step for a node, with the cursor behind it.
-fn on_node(list: &[u8], c: Walk, n: NodeHead, mode: CacheMode, clock: u64) -> Step
+// The step for a node, with the cursor behind it. A missing command, one key or several, first drops opt-in's reply.
+fn on_node(list: &[u8], c: Walk, n: NodeHead, mode: CacheMode, clock: u64) -> Option<Step>
     requires { Placed list.now c }
     ensures { OnNode list.now c n mode clock result }
 {
-    if n.kind == planning::NODE_HAND_ON {
-        return hand_on(list, c);
-    }
-    if n.kind == planning::NODE_SERVED {
-        return Step {
+    match n.kind.ok()? {
+        NodeKind::HandOn => hand_on(list, c),
+        NodeKind::Served => Some(Step {
             next: Next::Plan(n.first, n.second),
             walk: c,
-        };
-    }
-    if n.kind == planning::NODE_ALL_SERVED {
-        return Step {
+        }),
+        NodeKind::AllServed => Some(Step {
             next: Next::Head(n.number),
             walk: c,
-        };
+        }),
+        NodeKind::Missing => single(list, drop_reply(list, c, mode)?, Missed::from(n), clock),
+        NodeKind::Several => several(list, drop_reply(list, c, mode)?, n.number),
+        NodeKind::Waiting => Some(waiting(list, c, Missed::from(n), clock)),
+        NodeKind::End => Some(ended(list, c)),
     }
-    if n.kind == planning::NODE_WAITING {
-        let m = Missed {
-            key: n.first,
-            command: n.second,
-            end: n.end,
-            expiry: n.number,
-        };
-        return waiting(list, c, m, clock);
-    }
-    if n.kind == planning::NODE_END {
-        return ended(list, c);
-    }
-    missing(list, c, n, mode, clock)
 }
 
 // The step at the node at which the walk stands.
-pub fn step_at(plan: &[u8], list: &[u8], c: Walk, mode: CacheMode, clock: u64) -> Step
+pub fn step_at(plan: &[u8], list: &[u8], c: Walk, mode: CacheMode, clock: u64) -> Option<Step>
     requires { HeadIn plan.now c.at × Placed list.now c }
     ensures { StepIs plan.now list.now c mode clock result }
 {
@@ -370,6 +331,5 @@ pub fn element_part<'a>(plan: &'a [u8], list: &'a [u8], next: Next) -> &'a [u8]
         Next::Keep(_, a, e) => &list[a..e],
         Next::Head(_) => &plan[..0],
         Next::Pass => &plan[..0],
-        Next::Wrong => &plan[..0],
     }
 }

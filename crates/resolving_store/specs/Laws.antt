@@ -1,5 +1,5 @@
 -- Stores one after the other, and the store pass by the invariant that all passes share. Assumes nothing.
-use Rattle.std.specs.Prelude.{◌≡◌, Bool, cond, length}
+use Rattle.std.specs.Prelude.{◌≡◌, None, Some, Bool, cond, length}
 use Rattle.std.proofs.Math.Path.{refl, ap}
 use Rattle.std.proofs.Common.{sym, ap₂, subst, ◌∙◌}
 use Rattle.std.proofs.Math.Bool.{true, false}
@@ -23,9 +23,12 @@ use Rattle.resolving.specs.Kept.{Storable}
 use Rattle.resolving_walk.specs.Walk.{Walked, walk}
 use Rattle.resolving_step.specs.declared.Walk.{Walk}
 use Rattle.resolving_step.specs.declared.Step.{Step}
-use Rattle.resolving_step.specs.Steps.{next_bytes, next_stores, is_wrong, StepIs}
+use Rattle.resolving_step.specs.declared.Missed.{Missed}
+use Rattle.resolving_step.specs.declared.Next.{Next}
+use Rattle.resolving_step.specs.declared.Next.TheVariants.{Plan, Reply, Head, Keep, Pass}
+use Rattle.resolving_step.specs.Steps.{next_bytes, next_stores, StepIs}
 use Rattle.resolving_passes.specs.Passes.{Starts}
-use Rattle.resolving_passes.specs.Reached.{Reached, start, stepped, ended}
+use Rattle.resolving_passes.specs.Reached.{Reached, start, stepped, stops, ended}
 use Rattle.resolving_store.specs.Stores.{Stores, walked_stores}
 
 -- ---- stores in turn, on the book
@@ -128,27 +131,34 @@ module _ (g : Settings) (e : ℕ) where
     pub keep-start : (old : Bytes) (c : Walk) (ns : List Node) (es rs : Values) → Starts p s c ns es rs → Kept (walk mode clock ns es rs) c old old 0
     keep-start old c ns es rs h = record { bs = []; ss = []; reached = start p s mode clock c ns es rs h; stores = stores-none old; few = omega arith }
 
-    pub keep-step : (o : Walked) (c : Walk) (old new then : Bytes) (n m : ℕ) (t : Step) → c.at < length p → StepIs p s c mode clock t
-        → is_wrong t.next ≡ false
+    pub keep-step : (o : Walked) (c : Walk) (old new then : Bytes) (n m : ℕ) (t : Step) → c.at < length p → StepIs p s c mode clock (Some t)
         → Stores g e (next_stores p s t.next) new then m → m ≤ 1 → Kept o c old new n → Kept o t.walk old then (n + m)
-    keep-step o c old new then n m t l f w h i k =
+    keep-step o c old new then n m t l f h i k =
         let z = stepped p s mode clock o c k.bs k.ss t k.reached l f in
         record {
           bs = k.bs ++ next_bytes p s t.next;
           ss = k.ss ++ next_stores p s t.next;
-          reached = z.on w;
+          reached = z.on;
           stores = stores-append k.ss (next_stores p s t.next) old new then n m k.stores h;
-          few = omega (arith, k.few, z.far w);
+          few = omega (arith, k.few, z.far);
         }
 
-    pub keep-wrong : (o : Walked) (c : Walk) (old new : Bytes) (n : ℕ) (t : Step) → c.at < length p → StepIs p s c mode clock t → is_wrong t.next ≡ true
+    pub keep-wrong : (o : Walked) (c : Walk) (old new : Bytes) (n : ℕ) → c.at < length p → StepIs p s c mode clock None
         → Kept o c old new n → Stores g e (walked_stores o) old new n
     unfolding walked_stores
-    keep-wrong o c old new n t l f w k = rw ((stepped p s mode clock o c k.bs k.ss t k.reached l f).wrong w) k.stores
+    keep-wrong o c old new n l f k = rw (stops p s mode clock o c k.bs k.ss k.reached l f) k.stores
 
     pub keep-end : (o : Walked) (c : Walk) (old new : Bytes) (n : ℕ) → length p ≤ c.at → Kept o c old new n → Stores g e (walked_stores o) old new n
     unfolding walked_stores
     keep-end o c old new n l k = rw (ended p s mode clock o c k.bs k.ss k.reached l) k.stores
+
+-- what keeps nothing stores nothing
+pub stores-nothing : (p s : Bytes) (n : Next) → ((m : Missed) (a e : ℕ) → n ≡ Keep m a e → ⊥) → next_stores p s n ≡ []
+stores-nothing p s (Plan a e) h = refl
+stores-nothing p s (Reply a e) h = refl
+stores-nothing p s (Head n) h = refl
+stores-nothing p s (Keep m a e) h = absurd (h m a e refl)
+stores-nothing p s Pass h = refl
 
 -- what the cache's store asks for
 pub insertable : (t : Storing) → Storable t → space.Storable t.wanted.key t.wanted.command t.value × (is_value t.value ≡ true)

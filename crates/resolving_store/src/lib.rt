@@ -16,6 +16,7 @@ use config::{CacheMode, Now, Settings};
 use resolving_step::{Missed, Next, Walk};
 
 // Stores the value that stands in the list from `from` up to `to`: 1 where there is no space, else 0.
+// Kept: a number, since what is asked for is how many stores there was no space for, and this is one of them or none.
 fn store_one(
     arena: &mut [u8],
     g: Settings,
@@ -45,7 +46,10 @@ fn store_one(
         epoch,
         seen,
     );
-    if kept { 0 } else { 1 }
+    match kept {
+        Ok(()) => 0,
+        Err(_) => 1,
+    }
 }
 
 // Stores what a step keeps, if anything: how many stores there was no space for.
@@ -63,14 +67,10 @@ fn keep(
     ensures { Stores g epoch (next_stores plan.now list.now next) arena.old arena.new result × (result ≤ 1)
         × Filters g arena.new seen.new }
 {
-    match next {
-        Next::Plan(_, _) => 0,
-        Next::Reply(_, _) => 0,
-        Next::Head(_) => 0,
-        Next::Keep(m, from, to) => store_one(arena, g, plan, list, m, from, to, epoch, seen),
-        Next::Pass => 0,
-        Next::Wrong => 0,
-    }
+    let Next::Keep(m, from, to) = next else {
+        return 0;
+    };
+    store_one(arena, g, plan, list, m, from, to, epoch, seen)
 }
 
 // Stores from the walk's place on: how many stores there was no space for.
@@ -89,15 +89,13 @@ fn store_each(
 {
     let mut c = from;
     let mut refused: u64 = 0;
+    // Kept: a walk is no list: where the next node stands is known only once this one was read, and the walk may end early.
     while c.at < plan.len() {
-        let t = resolving_step::step_at(plan, list, c, mode, when.clock);
-        let next = t.next;
-        if resolving_passes::is_wrong(next) {
+        let Some(t) = resolving_step::step_at(plan, list, c, mode, when.clock) else {
             return refused;
-        }
-        refused += keep(arena, g, plan, list, next, when.epoch, seen);
-        let d = t.walk;
-        c = d;
+        };
+        refused += keep(arena, g, plan, list, t.next, when.epoch, seen);
+        c = t.walk;
     }
     refused
 }

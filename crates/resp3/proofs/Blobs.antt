@@ -1,4 +1,5 @@
 -- A blob string that stands within other bytes, and that it is a value. Assumes nothing.
+use Rattle.std.specs.Prelude.{Some}
 use mathlib.Core.Path.{◌≡◌, ap, ◌∙◌}
 use mathlib.Core.Bool.{true}
 use mathlib.Core.List.{◌∷◌, ◌++◌}
@@ -14,14 +15,13 @@ use Rattle.config.specs.Limits.{max_bytes}
 use Rattle.decimal.specs.Digits.{digits}
 use Rattle.decimal.specs.Read.{crlf_b, num_def}
 use Rattle.decimal.specs.NumSound.{num-sound, crlf-sound}
-use Rattle.decimal.specs.declared.Num.TheVariants.{Val}
 use Rattle.resp3.specs.Value.{Value, blob_string, enc, encode}
 use Rattle.resp3.specs.Ends.{is_value}
 use Rattle.resp3.specs.Rows.{enc-is}
 use Rattle.resp3.proofs.Law.{value-law}
 
 -- what stands from `from` on: the blob string of the n bytes at e, and what follows it
-blob-stands : (s : Bytes) (lim from n e : ℕ) → from < length s → get_or s from 0 ≡ 36 → num_def lim s (from + 1) ≡ Val n e → e + n ≤ length s
+blob-stands : (s : Bytes) (lim from n e : ℕ) → from < length s → get_or s from 0 ≡ 36 → num_def lim s (from + 1) ≡ Some (n, e) → e + n ≤ length s
     → crlf_b s (e + n) ≡ true → drop from s ≡ encode (blob_string (part s e n)) ++ drop (e + n + 2) s
 blob-stands s lim from n e h g q l k =
     let xs : Bytes = part s e n in
@@ -36,7 +36,7 @@ blob-stands s lim from n e h g q l k =
 
 -- a blob string that begins at `from` and ends at `to` is a value
 pub blob-value : (s : Bytes) (lim from to n e : ℕ) → from < to → to ≤ length s → to - from ≤ max_bytes → get_or s from 0 ≡ 36
-    → num_def lim s (from + 1) ≡ Val n e → e + n + 2 ≡ to → crlf_b s (e + n) ≡ true → is_value (part s from (to - from)) ≡ true
+    → num_def lim s (from + 1) ≡ Some (n, e) → e + n + 2 ≡ to → crlf_b s (e + n) ≡ true → is_value (part s from (to - from)) ≡ true
 blob-value s lim from to n e o h small g q p k =
     let v : Value = blob_string (part s e n) in
     let R : Bytes = drop (e + n + 2) s in

@@ -1,5 +1,5 @@
 -- What is written is read: where the bytes of a valid value stand, the reader ends behind them and finds the value. Assumes nothing.
-use Rattle.std.specs.Prelude.{◌≡◌, Bool, true, false, cond, [], ◌∷◌, ◌++◌, length, get_or, take, drop, ℤ, pos, negsuc}
+use Rattle.std.specs.Prelude.{◌≡◌, Bool, true, false, cond, [], ◌∷◌, ◌++◌, length, get_or, take, drop, ℤ, pos, negsuc, Option, Some}
 use Rattle.std.proofs.Math.Path.{refl}
 use Rattle.std.proofs.Common.{sym, ap, ap₂, ◌∙◌, append_assoc, arith, length-append, take_at, drop_at, get_or-drop, ne_eqb}
 use Prim.Native.Nat.{ℕ, zero, suc, ◌+◌, ◌-◌, ◌≤◌}
@@ -10,13 +10,10 @@ use Rattle.decimal.specs.Read.{num_def}
 use Rattle.decimal.specs.ReadLaws.{crlf-in}
 use Rattle.decimal.specs.NumLaw.{crlf-law, head-ge}
 use Rattle.buffer.specs.Places.{after, first, get_or-drop0}
-use Rattle.decimal.specs.declared.Num.TheVariants.{Val}
 use Rattle.resp3.specs.declared.Kind.{Kind}
 use Rattle.resp3.specs.declared.Kind.TheVariants.{BlobString, SimpleString, SimpleError, Number, Null, Double, Boolean, BlobError}
 use Rattle.resp3.specs.declared.Kind.TheVariants.{VerbatimString, BigNumber, Array, Map, Set, Attribute, Push}
 use Rattle.resp3.specs.declared.Shape.TheVariants.{List as ListS, Pairs as PairsS, PairsAndValue}
-use Rattle.resp3.specs.declared.End.{End}
-use Rattle.resp3.specs.declared.End.TheVariants.{At}
 use Rattle.resp3.specs.Kinds.{byte_of, shape_of, kind_of}
 use Rattle.resp3.specs.KindLaws.{kind-byte}
 use Rattle.resp3.specs.Value.{Spelling, underscore, blob_null, array_null, Value, Values, Pairs, blob_string, simple_string, simple_error, number, null_as}
@@ -32,19 +29,19 @@ use Rattle.resp3.specs.Rows.{room, room_pairs, head_of, flat, flat-enc, flat-cou
 use Rattle.resp3.specs.Decode.{bytes_at, line_at, integer_at, flag_at, values_at, pairs_at, attribute_at, body_of, spelling_of, iter_of, value_of, values_of}
 
 -- x ended at some e, where r follows, and y found a
-pub record Got {A : Type 0} (s r : Bytes) (a : A) (x : End) (y : A) : Type 0 where
+pub record Got {A : Type 0} (s r : Bytes) (a : A) (x : Option ℕ) (y : A) : Type 0 where
   pub e : ℕ
-  pub is : x ≡ At e
+  pub is : x ≡ Some e
   pub rest : drop e s ≡ r
   pub within : e ≤ length s
   pub found : y ≡ a
 
 -- the same end, and what is made of what was found
-made : {A B : Type 0} {s r : Bytes} {a : A} {x w : End} {y : A} (f : A → B) → w ≡ x → Got s r a x y → Got s r (f a) w (f y)
+made : {A B : Type 0} {s r : Bytes} {a : A} {x w : Option ℕ} {y : A} (f : A → B) → w ≡ x → Got s r a x y → Got s r (f a) w (f y)
 made f p z = record { e = z.e; is = p ∙ z.is; rest = z.rest; within = z.within; found = ap f z.found }
 
 -- the same, found and meant in other words
-also : {A : Type 0} {s r : Bytes} {a b : A} {x : End} {y w : A} → a ≡ b → w ≡ y → Got s r a x y → Got s r b x w
+also : {A : Type 0} {s r : Bytes} {a b : A} {x : Option ℕ} {y w : A} → a ≡ b → w ≡ y → Got s r a x y → Got s r b x w
 also p q z = record { e = z.e; is = z.is; rest = z.rest; within = z.within; found = q ∙ z.found ∙ p }
 
 -- ---- what stands behind a first byte
@@ -143,7 +140,8 @@ OneLaw : ℕ → Bytes → Type 0
 OneLaw d s = (v : Value) → Valid v → depth v ≤ d → (at : ℕ) (r : Bytes) → drop at s ≡ enc v r → Got s r v (value_end d s at) (value_of d s at)
 
 -- one value more in front of a row
-one_more : (d : ℕ) (s : Bytes) (n at e : ℕ) (v : Value) → value_end d s at ≡ At e → value_of d s at ≡ v → values_of d s (suc n) at ≡ more v (values_of d s n e)
+one_more : (d : ℕ) (s : Bytes) (n at e : ℕ) (v : Value) → value_end d s at ≡ Some e → value_of d s at ≡ v
+    → values_of d s (suc n) at ≡ more v (values_of d s n e)
 unfolding values_of iter_of
 one_more d s n at e v h g = rw (g, h)
 
@@ -160,7 +158,7 @@ items-got d s one (more v vs) ok l at r i h =
     (items-got d s one vs ok.1 (omega arith) z.e r z.within z.rest))
 
 -- behind a count n the end is that of f n values
-counts : (s : Bytes) (p : ℕ) (f : ℕ → ℕ) (d : ℕ) {n e : ℕ} → num_def (length s) s p ≡ Val n e
+counts : (s : Bytes) (p : ℕ) (f : ℕ → ℕ) (d : ℕ) {n e : ℕ} → num_def (length s) s p ≡ Some (n, e)
     → head_then (count_of (length_at s p) f) (λ m q. items_end d s m q) ≡ items_end d s (f n) e
 unfolding length_at
 counts s p f d h = paths.count-is (length_at s p) f (λ m q. items_end d s m q) ∙ rw h

@@ -1,13 +1,11 @@
 -- The reader agrees with specs/Value.antt: it accepts exactly the bytes of valid values of at most 16 levels and 16 MiB, no bytes
 -- are those of two values, and `decode` finds the one. Assumes nothing.
-use Rattle.std.specs.Prelude.{◌≡◌, refl, ◌↔◌, true, [], ◌++◌, ℕ, ◌≤◌, max, leb, length}
+use Rattle.std.specs.Prelude.{◌≡◌, refl, ◌↔◌, true, [], ◌++◌, ℕ, ◌≤◌, max, leb, length, Option, Some, None}
 use Rattle.std.proofs.Common.{sym, ap, ◌∙◌, arith, length-drop, leb-true, eqb-true, eq-eqb}
 use Rattle.std.proofs.Math.Seq.{drop-length}
 use Rattle.buffer.specs.Same.{Bytes}
 use Rattle.buffer.specs.Cases.{by_test}
 use Rattle.config.specs.Limits.{max_bytes, max_depth}
-use Rattle.resp3.specs.declared.End.{End}
-use Rattle.resp3.specs.declared.End.TheVariants.{At, Bad}
 use Rattle.resp3.specs.Value.{Value, Valid, depth, enc, encode, Means, IsValue}
 use Rattle.resp3.specs.Ends.{value_end, ends_at, is_value}
 use Rattle.resp3.specs.Paths as paths
@@ -19,12 +17,12 @@ use Rattle.resp3.specs.Sound.{end-sound}
 -- ---- what is accepted is a value
 
 -- what ends at n
-ends-says : (x : End) (n : ℕ) → ends_at x n ≡ true → x ≡ At n
-ends-says (At e) n h = ap At (eqb-true e n h)
-ends-says Bad n h = absurd (let z : ◌≡◌ {A = ℕ} 0 1 = cc in omega arith)
+ends-says : (x : Option ℕ) (n : ℕ) → ends_at x n ≡ true → x ≡ Some n
+ends-says (Some e) n h = ap Some (eqb-true e n h)
+ends-says None n h = absurd (let z : ◌≡◌ {A = ℕ} 0 1 = cc in omega arith)
 
 -- a value that ends with the bytes is all of them
-whole : (s : Bytes) → value_end max_depth s 0 ≡ At (length s) → length s ≤ max_bytes → IsValue s
+whole : (s : Bytes) → value_end max_depth s 0 ≡ Some (length s) → length s ≤ max_bytes → IsValue s
 unfolding encode
 whole s h l =
     let w = end-sound max_depth s 0 (length s) h in
@@ -46,11 +44,11 @@ unfolding encode
 means-got s v m = read-law max_depth s v m.ok m.deep 0 [] m.is
 
 -- it ends where the bytes end
-pub means-ends : (s : Bytes) (v : Value) → Means s v → value_end max_depth s 0 ≡ At (length s)
+pub means-ends : (s : Bytes) (v : Value) → Means s v → value_end max_depth s 0 ≡ Some (length s)
 means-ends s v m =
     let z = means-got s v m in
     let k : z.e ≡ length s = omega (arith, z.within, length-drop z.e s, ap length z.rest) in
-    z.is ∙ ap At k
+    z.is ∙ ap Some k
 
 -- a value is accepted by the reader
 taken : (s : Bytes) → IsValue s → is_value s ≡ true

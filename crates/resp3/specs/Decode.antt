@@ -1,16 +1,12 @@
 -- The value that bytes hold, read off beside where it ends (specs/Ends.antt). Assumes nothing: these are definitions.
 -- Nobody has to believe them: proofs/Law.antt shows that what they find is what was written.
-use Rattle.std.specs.Prelude.{Bool, cond, [], ℕ, zero, suc, ◌+◌, ◌-◌, eqb, get_or, take, drop, ℤ, pos, negsuc}
+use Rattle.std.specs.Prelude.{Bool, cond, [], ℕ, zero, suc, ◌+◌, ◌-◌, eqb, get_or, take, drop, ℤ, pos, negsuc, Option, Some, None}
 use Rattle.buffer.specs.Same.{Bytes}
 use Rattle.config.specs.Limits.{max_depth}
 use Rattle.decimal.specs.Read.{num_def}
-use Rattle.decimal.specs.declared.Num.{Num}
-use Rattle.decimal.specs.declared.Num.TheVariants.{Val, Bad as BadNum}
 use Rattle.resp3.specs.declared.Kind.{Kind}
 use Rattle.resp3.specs.declared.Kind.TheVariants.{BlobString, SimpleString, SimpleError, Number, Null, Double, Boolean, BlobError}
 use Rattle.resp3.specs.declared.Kind.TheVariants.{VerbatimString, BigNumber, Array, Map, Set, Attribute, Push, Unknown}
-use Rattle.resp3.specs.declared.End.{End}
-use Rattle.resp3.specs.declared.End.TheVariants.{At, Bad}
 use Rattle.resp3.specs.Kinds.{kind_of}
 use Rattle.resp3.specs.Ends.{length_at, plain, null_word_b, value_end}
 use Rattle.resp3.specs.Rows.{head_of, pair_up, skip}
@@ -18,19 +14,19 @@ use Rattle.resp3.specs.Value.{Spelling, blob_null, array_null, Value, Values, Pa
 use Rattle.resp3.specs.Value.{double, boolean, blob_error, null, verbatim_string, big_number, array, map, set, attribute, push, none, more, nil}
 
 -- go on with a number and where it ended, or take a
-abbrev pub num_case : {A : Type 0} → Num → (ℕ → ℕ → A) → A → A
-num_case (Val n e) f a = f n e
-num_case BadNum f a = a
+abbrev pub num_case : {A : Type 0} → Option (ℕ × ℕ) → (ℕ → ℕ → A) → A → A
+num_case (Some (n, e)) f a = f n e
+num_case None f a = a
 
 -- the number, or 0
-abbrev pub num_or : Num → ℕ
-num_or (Val n e) = n
-num_or BadNum = 0
+abbrev pub num_or : Option (ℕ × ℕ) → ℕ
+num_or (Some (n, e)) = n
+num_or None = 0
 
 -- the end, or 0
-abbrev pub end_or : End → ℕ
-end_or (At e) = e
-end_or Bad = 0
+abbrev pub end_or : Option ℕ → ℕ
+end_or (Some e) = e
+end_or None = 0
 
 -- the bytes behind a length
 unfoldable pub bytes_at : Bytes → ℕ → Bytes
@@ -87,7 +83,7 @@ abbrev pub spelling_of : ℕ → Spelling
 spelling_of b = cond (eqb b 36) blob_null array_null
 
 -- n values, one after the other, by readers of one
-unfoldable pub iter_of : (ℕ → End) → (ℕ → Value) → ℕ → ℕ → Values
+unfoldable pub iter_of : (ℕ → Option ℕ) → (ℕ → Value) → ℕ → ℕ → Values
 iter_of f g zero q = none
 iter_of f g (suc n) q = more (g q) (iter_of f g n (end_or (f q)))
 

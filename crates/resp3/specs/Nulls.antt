@@ -1,13 +1,11 @@
 -- RESP2's nulls, `$-1` and `*-1`: how their beginning is told from that of other values, and what follows it. Assumes nothing.
-use Rattle.std.specs.Prelude.{◌≡◌, refl, Bool, true, false, [], ◌∷◌, ℕ, ◌+◌, ◌≤◌, ◌<◌, eqb, length, get_or, drop}
+use Rattle.std.specs.Prelude.{◌≡◌, refl, Bool, true, false, [], ◌∷◌, ℕ, ◌+◌, ◌≤◌, ◌<◌, eqb, length, get_or, drop, None}
 use Rattle.std.proofs.Common.{ap, ◌∙◌, arith, eqb-true, ne_eqb}
 use Rattle.buffer.specs.Same.{Bytes}
 use Rattle.buffer.specs.Places.{after, first, get_or-drop0, get_or-out, inside}
 use Rattle.decimal.specs.Read.{both, digit_b}
 use Rattle.decimal.specs.ReadLaws.{both_true, lead-stop, num-none}
 use Rattle.decimal.specs.NumLaw.{head-ge}
-use Rattle.decimal.specs.declared.Num.TheVariants.{Bad as BadNum}
-use Rattle.resp3.specs.declared.End.TheVariants.{Bad}
 use Rattle.resp3.specs.Value.{crlf, counted}
 use Rattle.resp3.specs.Ends.{length_at, crlf_end, null_byte_b, null_word_b, one_end}
 
@@ -58,7 +56,7 @@ pub word_in : (s : Bytes) (at : ℕ) → null_word_b s at ≡ true → at + 1 < 
 word_in s at h = let m = (word-says s at h).1 in inside s (at + 1) (omega arith)
 
 -- and begins no length or count
-pub word-length : (s : Bytes) (at : ℕ) → null_word_b s at ≡ true → length_at s (at + 1) ≡ BadNum
+pub word-length : (s : Bytes) (at : ℕ) → null_word_b s at ≡ true → length_at s (at + 1) ≡ None
 unfolding length_at
 word-length s at h =
     let m = (word-says s at h).1 in
@@ -85,10 +83,10 @@ unfolding one_end
 one-yes s p h = rw h
 
 -- anything else
-pub one-no : (s : Bytes) (p : ℕ) → ((get_or s p 0 ≡ 49) → ⊥) → one_end s p ≡ Bad
+pub one-no : (s : Bytes) (p : ℕ) → ((get_or s p 0 ≡ 49) → ⊥) → one_end s p ≡ None
 unfolding one_end
 one-no s p h = rw (ne_eqb (get_or s p 0) 49 h)
 
 -- as nothing does past the end
-pub one_out : (s : Bytes) (p : ℕ) → length s ≤ p → one_end s p ≡ Bad
+pub one_out : (s : Bytes) (p : ℕ) → length s ≤ p → one_end s p ≡ None
 one_out s p h = one-no s p (λ z. let k = get_or-out s p h in omega arith)

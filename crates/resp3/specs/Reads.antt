@@ -1,5 +1,5 @@
 -- Numbers, lengths and counts that are written are read. Assumes nothing.
-use Rattle.std.specs.Prelude.{◌≡◌, [], ◌∷◌, ℕ, ◌+◌, ◌≤◌, length, drop}
+use Rattle.std.specs.Prelude.{◌≡◌, [], ◌∷◌, ℕ, ◌+◌, ◌≤◌, length, drop, Some}
 use Rattle.std.proofs.Common.{ap, arith, length-append, length-drop}
 use Rattle.buffer.specs.Same.{Bytes}
 use Rattle.buffer.specs.Places.{after}
@@ -7,13 +7,12 @@ use Rattle.decimal.specs.Digits.{digits}
 use Rattle.decimal.specs.Read.{num_def}
 use Rattle.decimal.specs.ReadLaws.{num-bounds}
 use Rattle.decimal.specs.NumLaw.{num-law}
-use Rattle.decimal.specs.declared.Num.TheVariants.{Val}
 use Rattle.resp3.specs.Value.{crlf, counted}
 
 -- the number n was read at p, and r follows
 pub record Reads (lim : ℕ) (s : Bytes) (p n : ℕ) (r : Bytes) : Type 0 where
   pub e : ℕ
-  pub is : num_def lim s p ≡ Val n e
+  pub is : num_def lim s p ≡ Some (n, e)
   pub rest : drop e s ≡ r
   pub within : e ≤ length s
 

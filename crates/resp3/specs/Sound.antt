@@ -1,5 +1,5 @@
 -- What is read was written: where the reader finds an end, the bytes of a valid value stand before it. Assumes nothing.
-use Rattle.std.specs.Prelude.{◌≡◌, true, ◌∷◌, ℕ, zero, suc, ◌+◌, ◌-◌, ◌≤◌, ◌<◌, eqb, length, get_or, drop}
+use Rattle.std.specs.Prelude.{◌≡◌, true, ◌∷◌, ℕ, zero, suc, ◌+◌, ◌-◌, ◌≤◌, ◌<◌, eqb, length, get_or, drop, Option, Some, None}
 use Rattle.std.proofs.Math.Path.{refl}
 use Rattle.std.proofs.Common.{sym, ap, ◌∙◌, ⊎_elim, arith, eqb-true}
 use Rattle.buffer.specs.Same.{Bytes}
@@ -8,10 +8,6 @@ use Rattle.buffer.specs.Places.{inside, step}
 use Rattle.resp3.specs.declared.Kind.{Kind}
 use Rattle.resp3.specs.declared.Kind.TheVariants.{BlobString, SimpleString, SimpleError, Number, Null, Double, Boolean, BlobError}
 use Rattle.resp3.specs.declared.Kind.TheVariants.{VerbatimString, BigNumber, Array, Map, Set, Attribute, Push, Unknown}
-use Rattle.decimal.specs.declared.Num.{Num}
-use Rattle.resp3.specs.declared.Head.{Head}
-use Rattle.resp3.specs.declared.End.{End}
-use Rattle.resp3.specs.declared.End.TheVariants.{At, Bad}
 use Rattle.resp3.specs.Kinds.{byte_of, shape_of, kind_of}
 use Rattle.resp3.specs.KindLaws.{kind-known}
 use Rattle.resp3.specs.Value.{blob_null, array_null, Value, Values, Pairs, blob_string, simple_string, simple_error, number, null_as, null, double}
@@ -39,18 +35,19 @@ record AllWritten (d : ℕ) (s : Bytes) (n at e : ℕ) : Type 0 where
   is : drop at s ≡ encs vs (drop e s)
 
 -- a row that ends was written
-items-sound : (d : ℕ) (s : Bytes) → ((at e : ℕ) → value_end d s at ≡ At e → Written d s at e) → (n at e : ℕ) → items_end d s n at ≡ At e → AllWritten d s n at e
+items-sound : (d : ℕ) (s : Bytes) → ((at e : ℕ) → value_end d s at ≡ Some e → Written d s at e) → (n at e : ℕ) → items_end d s n at ≡ Some e
+    → AllWritten d s n at e
 unfolding items_end iter
 items-sound d s one zero at e h = record { vs = none; many = refl; ok = tt; deep = omega arith; is = ap (λ (k : ℕ). drop k s) (at_same at e h) }
 items-sound d s one (suc n) at e h = go (value_end d s at) refl h (λ q k. items-sound d s one n q e k)
   where
-    go : (x : End) → value_end d s at ≡ x → end_then x (λ q. iter (λ k. value_end d s k) n q) ≡ At e
-        → ((q : ℕ) → items_end d s n q ≡ At e → AllWritten d s n q e) → AllWritten d s (suc n) at e
-    go (At q) i k rest =
+    go : (x : Option ℕ) → value_end d s at ≡ x → end_then x (λ q. iter (λ k. value_end d s k) n q) ≡ Some e
+        → ((q : ℕ) → items_end d s n q ≡ Some e → AllWritten d s n q e) → AllWritten d s (suc n) at e
+    go (Some q) i k rest =
         let w = one at q i in
         let r = rest q k in
         record { vs = more w.v r.vs; many = ap suc r.many; ok = (w.ok, r.ok); deep = omega arith; is = w.is ∙ ap (enc w.v) r.is }
-    go Bad i k rest = absurd (not-bad e k)
+    go None i k rest = absurd (not-bad e k)
 
 -- behind a count n, a row of f n values
 record RowSays (d : ℕ) (s : Bytes) (f : ℕ → ℕ) (p e : ℕ) : Type 0 where
@@ -62,16 +59,16 @@ record RowSays (d : ℕ) (s : Bytes) (f : ℕ → ℕ) (p e : ℕ) : Type 0 wher
   is : drop p s ≡ counted n (encs row (drop e s))
 
 -- one value, by its kind; `rec` reads its elements
-module _ (d : ℕ) (s : Bytes) (at e : ℕ) (rec : (n q : ℕ) → items_end d s n q ≡ At e → AllWritten d s n q e) where
+module _ (d : ℕ) (s : Bytes) (at e : ℕ) (rec : (n q : ℕ) → items_end d s n q ≡ Some e → AllWritten d s n q e) where
   -- a count and a row that end were written
-  row-says : (f : ℕ → ℕ) (p : ℕ) → num_then (length_at s p) (λ n q. items_end d s (f n) q) ≡ At e → RowSays d s f p e
+  row-says : (f : ℕ → ℕ) (p : ℕ) → num_then (length_at s p) (λ n q. items_end d s (f n) q) ≡ Some e → RowSays d s f p e
   row-says f p h =
       let z = num-then (length_at s p) (λ n q. items_end d s (f n) q) e h in
       let w = rec (f z.n) z.q z.then in
       record { n = z.n; row = w.vs; many = w.many; ok = w.ok; deep = w.deep; is = length-says s p z.n z.q z.is ∙ ap (counted z.n) w.is }
 
   -- a row of as many values as its count
-  list-says : (p : ℕ) → num_then (length_at s p) (λ n q. items_end d s n q) ≡ At e → RowSays d s (λ n. n) p e
+  list-says : (p : ℕ) → num_then (length_at s p) (λ n q. items_end d s n q) ≡ Some e → RowSays d s (λ n. n) p e
   list-says p h = row-says (λ n. n) p h
 
   -- a list's count is that of its row
@@ -111,15 +108,15 @@ module _ (d : ℕ) (s : Bytes) (at e : ℕ) (rec : (n q : ℕ) → items_end d s
         (ap (λ (m : ℕ). byte_of Attribute ∷ counted m (enc_pairs ps (enc v (drop e s)))) (sym k.pairs))
 
     -- what ended with no value inside, ended there
-    single : {x : End} → head_then (alone_of x) (λ n q. items_end d s n q) ≡ At e → x ≡ At e
+    single : {x : Option ℕ} → head_then (alone_of x) (λ n q. items_end d s n q) ≡ Some e → x ≡ Some e
     single {x} h = sym (paths.alone-is d s x) ∙ h
 
     -- behind a count, the values ended there
-    rowed : (x : Num) (f : ℕ → ℕ) → head_then (count_of x f) (λ n q. items_end d s n q) ≡ At e → num_then x (λ n q. items_end d s (f n) q) ≡ At e
+    rowed : (x : Option (ℕ × ℕ)) (f : ℕ → ℕ) → head_then (count_of x f) (λ n q. items_end d s n q) ≡ Some e → num_then x (λ n q. items_end d s (f n) q) ≡ Some e
     rowed x f h = sym (paths.count-is x f (λ n q. items_end d s n q)) ∙ h
 
     -- a value was written, whatever its kind
-    by_kind : (k : Kind) → get_or s at 0 ≡ byte_of k → paths.body_end (shape_of k) s (λ n q. items_end d s n q) (at + 1) ≡ At e → Written (suc d) s at e
+    by_kind : (k : Kind) → get_or s at 0 ≡ byte_of k → paths.body_end (shape_of k) s (λ n q. items_end d s n q) (at + 1) ≡ Some e → Written (suc d) s at e
     unfolding body_head
     by_kind BlobString b h = let z = blob-says s (at + 1) e (single h) in written BlobString (blob_string z.xs) _ b tt (omega arith) z.is refl
     by_kind SimpleString b h = let z = line-says s (at + 1) e (single h) in written SimpleString (simple_string z.xs) _ b z.ok (omega arith) z.is refl
@@ -159,29 +156,29 @@ module _ (d : ℕ) (s : Bytes) (at e : ℕ) (rec : (n q : ℕ) → items_end d s
         (λ b. written Array (null_as array_null) _ (eqb-true (get_or s at 0) 42 (rw b at t.0)) tt (omega arith) q refl)
 
 -- no kind has no end
-nothing : (s : Bytes) (d e p : ℕ) → paths.body_end (shape_of Unknown) s (λ n q. items_end d s n q) p ≡ At e → Bad ≡ At e
+nothing : (s : Bytes) (d e p : ℕ) → paths.body_end (shape_of Unknown) s (λ n q. items_end d s n q) p ≡ Some e → None ≡ Some e
 unfolding body_head
 nothing s d e p h = h
 
 -- where the reader ends, a value was written
-pub end-sound : (d : ℕ) (s : Bytes) (at e : ℕ) → value_end d s at ≡ At e → Written d s at e
+pub end-sound : (d : ℕ) (s : Bytes) (at e : ℕ) → value_end d s at ≡ Some e → Written d s at e
 end-sound zero s at e h = absurd (not-bad e (sym (paths.end-zero 0 s at refl) ∙ h))
 end-sound (suc d) s at e h = go (λ n q k. items-sound d s (λ a b c. end-sound d s a b c) n q e k)
   where
     i : at < length s
     i = paths.end-in (suc d) s at e h
 
-    head : (x : Head) → head_at s at ≡ x → head_then x (λ n q. items_end d s n q) ≡ At e
+    head : (x : Option (ℕ × ℕ)) → head_at s at ≡ x → head_then x (λ n q. items_end d s n q) ≡ Some e
     head x k = let j : suc d - 1 ≡ d = omega arith in rw j at (sym (paths.end-head (suc d) s at x (λ z. omega arith) k) ∙ h)
 
-    unknown : paths.body_end (shape_of (kind_of (get_or s at 0))) s (λ n q. items_end d s n q) (at + 1) ≡ At e → kind_of (get_or s at 0) ≡ Unknown → ⊥
+    unknown : paths.body_end (shape_of (kind_of (get_or s at 0))) s (λ n q. items_end d s n q) (at + 1) ≡ Some e → kind_of (get_or s at 0) ≡ Unknown → ⊥
     unknown body u = not-bad e (nothing s d e (at + 1) (rw u at body))
 
-    kinds : ((n q : ℕ) → items_end d s n q ≡ At e → AllWritten d s n q e)
-        → paths.body_end (shape_of (kind_of (get_or s at 0))) s (λ n q. items_end d s n q) (at + 1) ≡ At e → Written (suc d) s at e
+    kinds : ((n q : ℕ) → items_end d s n q ≡ Some e → AllWritten d s n q e)
+        → paths.body_end (shape_of (kind_of (get_or s at 0))) s (λ n q. items_end d s n q) (at + 1) ≡ Some e → Written (suc d) s at e
     kinds rec body = ⊎_elim (λ b. by_kind d s at e rec i (kind_of (get_or s at 0)) b body) (λ u. absurd (unknown body u)) (kind-known (get_or s at 0))
 
-    go : ((n q : ℕ) → items_end d s n q ≡ At e → AllWritten d s n q e) → Written (suc d) s at e
+    go : ((n q : ℕ) → items_end d s n q ≡ Some e → AllWritten d s n q e) → Written (suc d) s at e
     go rec =
         by_test (null_word_b s at)
         (λ w. null-written d s at e rec i w (one-says s (at + 2) e (single d s at e rec i (head _ (paths.head-null s at w)))))

@@ -2,32 +2,19 @@
 // specs/Value.antt says what a value is and how it is written; proofs/Law.antt that this reader and that writing agree.
 #![tactic(auto)]
 
-ghost use Rattle.std.specs.Prelude.{◌≡◌, true, ◌+◌, ◌-◌, ◌≤◌, length, get_or};
+ghost use Rattle.std.specs.Prelude.{◌≡◌, true, ◌+◌, ◌-◌, ◌≤◌, length, drop};
 ghost use Rattle.buffer.specs.Same.{same};
 ghost use Rattle.buffer.specs.Part.{part, put};
 ghost use Rattle.resp3.specs.Kinds.{kind_of, shape_of};
 ghost use Rattle.resp3.specs.Value.{plain_b, null_bytes};
-ghost use Rattle.resp3.specs.Ends.{length_at, crlf_end, line_end, blob_end, verbatim_end, number_end, boolean_end, alone_of, null_word_b, one_end, kind_head};
+ghost use Rattle.resp3.specs.Ends.{length_at, crlf_end, plain, line_end, blob_end, verbatim_end, number_end, boolean_end, alone_of, null_word_b, one_end, kind_head};
 ghost use Rattle.resp3.specs.Ends.{null_head, head_at, value_end, is_value};
 
-use decimal::Num;
-
-// Where something ends: the place after its last byte. Bad where it does not stand there whole.
-#[derive(Clone, Copy)]
-pub enum End {
-    At(usize),
-    Bad,
-}
-
-// The beginning of a value: how many values are inside it, and where the first of them stands (or, with none, where it ends).
-#[derive(Drop)]
-enum Head {
-    Of(u64, usize),
-    Bad,
-}
+// An end is the place after the last byte of what stands at a place, and None where that does not stand there whole. A head is the beginning of a value: how
+// many values are inside it, and where the first of them stands (or, with none, where it ends).
 
 // The kinds of RESP3, and one for a byte that begins none.
-#[derive(Clone, Copy)]
+#[derive(Clone, Copy, PartialEq, Eq, Debug)]
 pub enum Kind {
     BlobString,
     SimpleString,
@@ -48,7 +35,7 @@ pub enum Kind {
 }
 
 // How a kind is written.
-#[derive(Clone, Copy)]
+#[derive(Clone, Copy, PartialEq, Eq, Debug)]
 pub enum Shape {
     Blob,
     Line,
@@ -62,28 +49,30 @@ pub enum Shape {
     Nothing,
 }
 
-// The kind that begins with the byte b.
-#[tactic(auto, unfolding(crate::specs::Kinds::kind_of))]
-pub fn kind_of(b: u8) -> Kind
-    ensures { result ≡ kind_of b }
-{
-    match b {
-        b'$' => Kind::BlobString,
-        b'+' => Kind::SimpleString,
-        b'-' => Kind::SimpleError,
-        b':' => Kind::Number,
-        b'_' => Kind::Null,
-        b',' => Kind::Double,
-        b'#' => Kind::Boolean,
-        b'!' => Kind::BlobError,
-        b'=' => Kind::VerbatimString,
-        b'(' => Kind::BigNumber,
-        b'*' => Kind::Array,
-        b'%' => Kind::Map,
-        b'~' => Kind::Set,
-        b'|' => Kind::Attribute,
-        b'>' => Kind::Push,
-        _ => Kind::Unknown,
+// The kind that begins with a byte.
+impl From<u8> for Kind {
+    ghost from_gives = { λ b kind. kind ≡ kind_of b };
+
+    #[tactic(auto, unfolding(crate::specs::Kinds::kind_of))]
+    fn from(b: u8) -> Kind {
+        match b {
+            b'$' => Kind::BlobString,
+            b'+' => Kind::SimpleString,
+            b'-' => Kind::SimpleError,
+            b':' => Kind::Number,
+            b'_' => Kind::Null,
+            b',' => Kind::Double,
+            b'#' => Kind::Boolean,
+            b'!' => Kind::BlobError,
+            b'=' => Kind::VerbatimString,
+            b'(' => Kind::BigNumber,
+            b'*' => Kind::Array,
+            b'%' => Kind::Map,
+            b'~' => Kind::Set,
+            b'|' => Kind::Attribute,
+            b'>' => Kind::Push,
+            _ => Kind::Unknown,
+        }
     }
 }
 
@@ -112,123 +101,111 @@ fn shape_of(k: Kind) -> Shape
 }
 
 // A length or a count. One that is larger than the whole slice is refused here: its bytes or values cannot follow.
-pub fn length_at(s: &[u8], at: usize) -> Num
+pub fn length_at(s: &[u8], at: usize) -> Option<(u64, usize)>
     ensures { result ≡ length_at s.now at }
 {
     decimal::read_num(s, at, s.len() as u64)
 }
 
 // CR LF.
-fn crlf_end(s: &[u8], at: usize) -> End
+fn crlf_end(s: &[u8], at: usize) -> Option<usize>
     ensures { result ≡ crlf_end s.now at }
 {
     if decimal::crlf_at(s, at) {
-        End::At(at + 2)
+        Some(at + 2)
     } else {
-        End::Bad
+        None
     }
 }
 
-// Whether a byte stands at i that is neither CR nor LF.
-fn plain_at(s: &[u8], i: usize) -> bool
-    ensures { result ≡ plain_b (get_or s.now i 13) }
+// Whether b is neither CR nor LF.
+#[tactic(auto, unfolding(crate::specs::Value::plain_b))]
+fn is_plain(b: u8) -> bool
+    ensures { result ≡ plain_b b }
 {
-    if i >= s.len() {
-        return false;
+    b != b'\r' && b != b'\n'
+}
+
+// The first place from `at` on where a CR or an LF stands, or where the slice ends.
+pub fn plain_end(s: &[u8], at: usize) -> usize
+    ensures { result ≡ at + plain (drop at s.now) }
+{
+    for i in at..s.len() {
+        if !is_plain(s[i]) {
+            return i;
+        }
     }
-    let b = s[i];
-    if b == 13 {
-        return false;
-    }
-    b != 10
+    at.max(s.len())
 }
 
 // A line: bytes that are neither CR nor LF, then CR LF.
-fn line_end(s: &[u8], at: usize) -> End
+fn line_end(s: &[u8], at: usize) -> Option<usize>
     ensures { result ≡ line_end s.now at }
 {
-    let mut i = at;
-    while plain_at(s, i) {
-        i += 1;
-    }
-    crlf_end(s, i)
+    crlf_end(s, plain_end(s, at))
 }
 
 // A length, as many bytes, CR LF.
-fn blob_end(s: &[u8], at: usize) -> End
+fn blob_end(s: &[u8], at: usize) -> Option<usize>
     ensures { result ≡ blob_end s.now at }
 {
-    let Num::Val(n, e) = length_at(s, at) else {
-        return End::Bad;
-    };
+    let (n, e) = length_at(s, at)?;
     crlf_end(s, e + n as usize)
 }
 
 // The same, of at least four bytes, the fourth a colon.
-fn verbatim_end(s: &[u8], at: usize) -> End
+fn verbatim_end(s: &[u8], at: usize) -> Option<usize>
     ensures { result ≡ verbatim_end s.now at }
 {
-    let Num::Val(n, e) = length_at(s, at) else {
-        return End::Bad;
-    };
+    let (n, e) = length_at(s, at)?;
     if n < 4 {
-        return End::Bad;
+        return None;
     }
     if e + 3 >= s.len() {
-        return End::Bad;
+        return None;
     }
     if s[e + 3] != b':' {
-        return End::Bad;
+        return None;
     }
     crlf_end(s, e + n as usize)
 }
 
 // An integer of 64 bits, CR LF.
-fn number_end(s: &[u8], at: usize) -> End
+fn number_end(s: &[u8], at: usize) -> Option<usize>
     ensures { result ≡ number_end s.now at }
 {
     if at >= s.len() {
-        return End::Bad;
+        return None;
     }
     if s[at] == b'-' {
-        let Num::Val(n, e) = decimal::read_num(s, at + 1, 9223372036854775808) else {
-            return End::Bad;
-        };
+        let (n, e) = decimal::read_num(s, at + 1, 9223372036854775808)?;
         if n == 0 {
-            return End::Bad;
+            return None;
         }
-        return End::At(e);
+        return Some(e);
     }
-    let Num::Val(_, e) = decimal::read_num(s, at, 9223372036854775807) else {
-        return End::Bad;
-    };
-    End::At(e)
+    let (_, e) = decimal::read_num(s, at, 9223372036854775807)?;
+    Some(e)
 }
 
 // t or f, CR LF.
-fn boolean_end(s: &[u8], at: usize) -> End
+fn boolean_end(s: &[u8], at: usize) -> Option<usize>
     ensures { result ≡ boolean_end s.now at }
 {
     if at >= s.len() {
-        return End::Bad;
+        return None;
     }
-    if s[at] == b't' {
-        return crlf_end(s, at + 1);
+    match s[at] {
+        b't' | b'f' => crlf_end(s, at + 1),
+        _ => None,
     }
-    if s[at] == b'f' {
-        return crlf_end(s, at + 1);
-    }
-    End::Bad
 }
 
 // A value with none inside it.
-fn alone(x: End) -> Head
-    ensures { result ≡ alone_of x }
+fn alone(end: Option<usize>) -> Option<(u64, usize)>
+    ensures { result ≡ alone_of end }
 {
-    match x {
-        End::At(e) => Head::Of(0, e),
-        End::Bad => Head::Bad,
-    }
+    end.map(|e| (0, e))
 }
 
 // Whether `$` or `*` stands at `at` with a minus behind it: so begin RESP2's nulls, and no other value.
@@ -251,96 +228,76 @@ pub fn null_word_at(s: &[u8], at: usize) -> bool
 }
 
 // The rest of such a null: 1, CR LF.
-fn one_end(s: &[u8], at: usize) -> End
+fn one_end(s: &[u8], at: usize) -> Option<usize>
     ensures { result ≡ one_end s.now at }
 {
     if at >= s.len() {
-        return End::Bad;
+        return None;
     }
     if s[at] != b'1' {
-        return End::Bad;
+        return None;
     }
     crlf_end(s, at + 1)
 }
 
 // What stands at `at`, up to the first value inside it, by the kind of its first byte.
-fn kind_head(s: &[u8], at: usize) -> Head
+fn kind_head(s: &[u8], at: usize) -> Option<(u64, usize)>
     ensures { result ≡ kind_head s.now at }
 {
     if at >= s.len() {
-        return Head::Bad;
+        return None;
     }
     let p = at + 1;
-    let shape = shape_of(kind_of(s[at]));
-    match shape {
+    match shape_of(Kind::from(s[at])) {
         Shape::Blob => alone(blob_end(s, p)),
         Shape::Line => alone(line_end(s, p)),
         Shape::Integer => alone(number_end(s, p)),
         Shape::Empty => alone(crlf_end(s, p)),
         Shape::Flag => alone(boolean_end(s, p)),
         Shape::Verbatim => alone(verbatim_end(s, p)),
-        Shape::List => {
-            let Num::Val(n, e) = length_at(s, p) else {
-                return Head::Bad;
-            };
-            Head::Of(n, e)
-        }
+        Shape::List => length_at(s, p),
         Shape::Pairs => {
-            let Num::Val(n, e) = length_at(s, p) else {
-                return Head::Bad;
-            };
-            Head::Of(n + n, e)
+            let (n, e) = length_at(s, p)?;
+            Some((n + n, e))
         }
         Shape::PairsAndValue => {
-            let Num::Val(n, e) = length_at(s, p) else {
-                return Head::Bad;
-            };
-            Head::Of(n + n + 1, e)
+            let (n, e) = length_at(s, p)?;
+            Some((n + n + 1, e))
         }
-        Shape::Nothing => Head::Bad,
+        Shape::Nothing => None,
     }
 }
 
 // A null of RESP2's, which an old server sends.
-fn null_head(s: &[u8], at: usize) -> Head
+fn null_head(s: &[u8], at: usize) -> Option<(u64, usize)>
     ensures { result ≡ null_head s.now at }
 {
     if null_word_at(s, at) {
         return alone(one_end(s, at + 2));
     }
-    Head::Bad
+    None
 }
 
 // Either of the two. By the kind of their first byte those nulls have a length or a count that is none, so that no other value pays for a look at them.
-fn head_at(s: &[u8], at: usize) -> Head
+fn head_at(s: &[u8], at: usize) -> Option<(u64, usize)>
     ensures { result ≡ head_at s.now at }
 {
-    match kind_head(s, at) {
-        Head::Of(n, e) => Head::Of(n, e),
-        Head::Bad => null_head(s, at),
-    }
+    kind_head(s, at).or_else(|| null_head(s, at))
 }
 
 // Where the value at `at` ends, if one stands there that nests at most depth deep.
-pub fn value_end(s: &[u8], at: usize, depth: usize) -> End
+pub fn value_end(s: &[u8], at: usize, depth: usize) -> Option<usize>
     ensures { result ≡ value_end depth s.now at }
 {
     if depth == 0 {
-        return End::Bad;
+        return None;
     }
-    let Head::Of(n, e) = head_at(s, at) else {
-        return End::Bad;
-    };
+    let (n, e) = head_at(s, at)?;
     let mut q = e;
-    let mut left = n;
-    while left > 0 {
-        let End::At(x) = value_end(s, q, depth - 1) else {
-            return End::Bad;
-        };
-        q = x;
-        left -= 1;
+    for _ in 0..n {
+        q = value_end(s, q, depth - 1)?;
     }
-    End::At(q)
+    Some(q)
 }
 
 // Whether the bytes are exactly one value, with nothing after it, of at most 16 MiB and 16 levels:
@@ -351,10 +308,7 @@ pub fn is_value(s: &[u8]) -> bool
     if s.len() > config::MAX_BYTES {
         return false;
     }
-    match value_end(s, 0, config::MAX_DEPTH) {
-        End::At(e) => e == s.len(),
-        End::Bad => false,
-    }
+    value_end(s, 0, config::MAX_DEPTH).is_some_and(|e| e == s.len())
 }
 
 // Whether `_` stands at `at`.
@@ -388,7 +342,7 @@ fn blob_in(s: &[u8], from: usize, to: usize) -> bool
     if s[from] != b'$' {
         return false;
     }
-    let Num::Val(n, e) = decimal::read_num(s, from + 1, size as u64) else {
+    let Some((n, e)) = decimal::read_num(s, from + 1, size as u64) else {
         return false;
     };
     let end = e + n as usize;

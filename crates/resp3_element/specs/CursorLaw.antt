@@ -1,5 +1,5 @@
 -- Where a cursor stands: at the start of a list, at an element, at the next one. Assumes nothing.
-use Rattle.std.specs.Prelude.{◌≡◌, refl, false, [], ◌∷◌, ◌++◌, ℕ, ◌-◌, ◌≤◌, eqb, length, get_or, take, drop}
+use Rattle.std.specs.Prelude.{◌≡◌, refl, false, [], ◌∷◌, ◌++◌, ℕ, ◌-◌, ◌≤◌, eqb, length, get_or, take, drop, None}
 use Rattle.std.proofs.Common.{ap, ◌∙◌, arith, length-append, length-drop, take_at, ne_eqb, eq-eqb}
 use Rattle.std.proofs.Math.Option.{some}
 use Rattle.buffer.specs.Same.{Bytes}
@@ -15,7 +15,6 @@ use Rattle.resp3.specs.Rows.{enc-is, longer, room}
 use Rattle.resp3.specs.Reads.{length-reads}
 use Rattle.resp3.proofs.Complete.{read-law}
 use Rattle.resp3_element.specs.declared.Cursor.{Cursor}
-use Rattle.resp3_element.specs.declared.Elements.TheVariants.{No as NoList}
 use Rattle.resp3_element.specs.Meaning.{value_kind, array_of, push_of, Stands, Holds}
 use Rattle.resp3_element.specs.Places.{stand_at, list_at}
 use Rattle.resp3_element.specs.Law.{bytes-are, by-begin}
@@ -53,7 +52,7 @@ next-law s c v vs w = stand-law s c.end (c.left - 1) vs (omega (arith, w.left)) 
 -- ---- lists
 
 -- a value that begins with another byte
-list-not : (b : ℕ) (s : Bytes) (v : Value) → Means s v → eqb (byte_of (value_kind v)) b ≡ false → list_at b s ≡ NoList
+list-not : (b : ℕ) (s : Bytes) (v : Value) → Means s v → eqb (byte_of (value_kind v)) b ≡ false → list_at b s ≡ None
 unfolding list_at
 list-not b s v m e =
     by-begin s v m (λ w f. rw (f, e)) (λ w n. rw (word-length s 0 w) (by_test (eqb (get_or s 0 0) b) (λ t. rw t) (λ t. rw t)))

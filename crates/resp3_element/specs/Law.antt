@@ -1,5 +1,5 @@
 -- What is read of a value's bytes is what the value is: kind, integer, blob. Assumes nothing.
-use Rattle.std.specs.Prelude.{◌≡◌, refl, true, false, [], ◌∷◌, ◌++◌, ℕ, suc, ◌-◌, ◌≤◌, eqb, leb, length, get_or, drop, ℤ, pos, negsuc}
+use Rattle.std.specs.Prelude.{◌≡◌, refl, true, false, [], ◌∷◌, ◌++◌, ℕ, suc, ◌-◌, ◌≤◌, eqb, leb, length, get_or, drop, ℤ, pos, negsuc, Option, Some, None}
 use Rattle.std.proofs.Common.{sym, ap, ◌∙◌, arith, length-append, length-drop, take_at, eqb-true, eq-eqb, ne_eqb, le-leb, leb-true}
 use Rattle.std.proofs.lemmas.Bool.{false≢true}
 use Rattle.std.proofs.Math.Nat.{add-sub_cancel_left}
@@ -7,8 +7,6 @@ use Rattle.buffer.specs.Same.{Bytes}
 use Rattle.buffer.specs.Cases.{by_test}
 use Rattle.decimal.specs.Digits.{digits}
 use Rattle.decimal.specs.NumLaw.{head-ge}
-use Rattle.decimal.specs.declared.Num.{Num}
-use Rattle.decimal.specs.declared.Num.TheVariants.{Val, Bad as BadNum}
 use Rattle.resp3.specs.Kinds.{byte_of, kind_of}
 use Rattle.resp3.specs.KindLaws.{kind-byte}
 use Rattle.resp3.specs.Value.{underscore, blob_null, array_null, Value, blob_string, simple_string, simple_error, number, null_as, double, boolean, blob_error}
@@ -20,8 +18,7 @@ use Rattle.resp3.specs.Decode.{num_case}
 use Rattle.resp3.specs.Nulls.{word-other, word-says, word-length, word_count, word-is}
 use Rattle.resp3.specs.Paths.{length-bounds}
 use Rattle.resp3.specs.Reads.{num-reads, length-reads}
-use Rattle.resp3_element.specs.declared.Range.{Range}
-use Rattle.resp3_element.specs.declared.Integer.TheVariants.{Is, No as NoInteger}
+use Rattle.std.specs.declared.ops.Range.{Range}
 use Rattle.resp3_element.specs.Meaning.{value_kind, of_kind, is_error, is_null, integer_of, blob_of}
 use Rattle.resp3_element.specs.Places.{kind_at, null_at, error_at, integer_at, no_range, range_of, range_at, in_range}
 
@@ -133,12 +130,12 @@ error-at-else s b h e = rw (← h, ne_eqb b 45 e)
 -- ---- integers
 
 -- a value of another kind
-integer-not : (s : Bytes) (v : Value) → Means s v → of_kind Number v ≡ false → integer_at s ≡ NoInteger
+integer-not : (s : Bytes) (v : Value) → Means s v → of_kind Number v ≡ false → integer_at s ≡ None
 unfolding integer_at
 integer-not s v m e = rw (first-is s v Number _ refl refl m refl, e)
 
 -- an integer is found, with its sign
-integer-is : (s : Bytes) (z : ℤ) → Fits64 z → s ≡ enc (number z) [] → integer_at s ≡ Is z
+integer-is : (s : Bytes) (z : ℤ) → Fits64 z → s ≡ enc (number z) [] → integer_at s ≡ Some z
 unfolding integer_at
 integer-is s (pos n) l h =
     let f : get_or s 0 0 ≡ 58 = ap (λ (x : Bytes). get_or x 0 0) h in
@@ -174,8 +171,8 @@ integer-law s (push vs) m = integer-not s _ m refl
 -- ---- blobs
 
 -- where a blob's bytes stand is in the slice
-pub record InRange (s : Bytes) (p : Range) : Type 0 where
-  pub order : p.at ≤ p.end
+pub record InRange (s : Bytes) (p : Range ℕ) : Type 0 where
+  pub order : p.start ≤ p.end
   pub within : p.end ≤ length s
 
 -- no bytes lie in any slice
@@ -195,12 +192,12 @@ range-there : (s : Bytes) → InRange s (range_at s)
 unfolding range_at
 range-there s = by_test (eqb (get_or s 0 0) 36) (λ t. rw t (go (length_at s 1) refl)) (λ t. rw t (no-range s))
   where
-    go : (x : Num) → length_at s 1 ≡ x → InRange s (num_case x (λ n e. range_of s n e) no_range)
-    go (Val n e) h = range-of-in s n e (length-bounds s 1 n e h).1
-    go BadNum h = no-range s
+    go : (x : Option (ℕ × ℕ)) → length_at s 1 ≡ x → InRange s (num_case x (λ n e. range_of s n e) no_range)
+    go (Some (n, e)) h = range-of-in s n e (length-bounds s 1 n e h).1
+    go None h = no-range s
 
 -- so does what it answers
-pub range-in : (s : Bytes) (p : Range) → p ≡ range_at s → InRange s p
+pub range-in : (s : Bytes) (p : Range ℕ) → p ≡ range_at s → InRange s p
 range-in s p e = rw e (range-there s)
 
 -- a value of another kind has none
@@ -237,5 +234,5 @@ blob-there s (attribute ps v) m = blob-not s _ m refl
 blob-there s (push vs) m = blob-not s _ m refl
 
 -- and answered
-pub blob-law : (s : Bytes) (p : Range) (v : Value) → p ≡ range_at s → Means s v → in_range s p ≡ blob_of v
+pub blob-law : (s : Bytes) (p : Range ℕ) (v : Value) → p ≡ range_at s → Means s v → in_range s p ≡ blob_of v
 blob-law s p v e m = rw e (blob-there s v m)

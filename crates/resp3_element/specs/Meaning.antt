@@ -1,8 +1,8 @@
 -- What is asked of a RESP3 value: its kind, whether it is an error or a null, its integer, its bytes, its elements; and where a
 -- cursor stands in a list. Assumes nothing: these are the definitions that a reader has to believe.
 -- A value under `|` is of the kind `attribute`, and so none of what is asked for.
-use Rattle.std.specs.Prelude.{◌≡◌, Bool, true, cond, [], ◌≤◌, eqb, length, drop}
-use Rattle.std.proofs.Math.Option.{Option, some}
+use Rattle.std.specs.Prelude.{◌≡◌, Bool, true, cond, [], ◌≤◌, eqb, length, drop, ℤ, Option, Some, None}
+use Rattle.std.proofs.Math.Option.{some}
 use Rattle.std.proofs.Math.Option as option
 use Rattle.buffer.specs.Same.{Bytes}
 use Rattle.config.specs.Limits.{max_depth}
@@ -14,10 +14,6 @@ use Rattle.resp3.specs.Value.{Value, Values, blob_string, simple_string, simple_
 use Rattle.resp3.specs.Value.{big_number, array, map, set, attribute, push, count, deepest, Valids, encs}
 use Rattle.resp3.specs.Rows.{tail_of}
 use Rattle.resp3_element.specs.declared.Cursor.{Cursor}
-use Rattle.resp3_element.specs.declared.Elements.{Elements}
-use Rattle.resp3_element.specs.declared.Elements.TheVariants.{Of, No as NoList}
-use Rattle.resp3_element.specs.declared.Integer.{Integer}
-use Rattle.resp3_element.specs.declared.Integer.TheVariants.{Is, No as NoInteger}
 
 -- a value's kind; a null is of the kind Null in whatever spelling
 abbrev pub value_kind : Value → Kind
@@ -50,22 +46,22 @@ abbrev pub is_null : Value → Bool
 is_null v = of_kind Null v
 
 -- the integer of `:`
-abbrev pub integer_of : Value → Integer
-integer_of (blob_string xs) = NoInteger
-integer_of (simple_string xs) = NoInteger
-integer_of (simple_error xs) = NoInteger
-integer_of (number z) = Is z
-integer_of (null_as q) = NoInteger
-integer_of (double xs) = NoInteger
-integer_of (boolean b) = NoInteger
-integer_of (blob_error xs) = NoInteger
-integer_of (verbatim_string f xs) = NoInteger
-integer_of (big_number xs) = NoInteger
-integer_of (array vs) = NoInteger
-integer_of (map ps) = NoInteger
-integer_of (set vs) = NoInteger
-integer_of (attribute ps v) = NoInteger
-integer_of (push vs) = NoInteger
+abbrev pub integer_of : Value → Option ℤ
+integer_of (blob_string xs) = None
+integer_of (simple_string xs) = None
+integer_of (simple_error xs) = None
+integer_of (number z) = Some z
+integer_of (null_as q) = None
+integer_of (double xs) = None
+integer_of (boolean b) = None
+integer_of (blob_error xs) = None
+integer_of (verbatim_string f xs) = None
+integer_of (big_number xs) = None
+integer_of (array vs) = None
+integer_of (map ps) = None
+integer_of (set vs) = None
+integer_of (attribute ps v) = None
+integer_of (push vs) = None
 
 -- the bytes of `$`; a null has none
 abbrev pub blob_of : Value → Bytes
@@ -86,7 +82,7 @@ blob_of (attribute ps v) = []
 blob_of (push vs) = []
 
 -- the elements of `*`; a null has none
-abbrev pub array_of : Value → Option Values
+abbrev pub array_of : Value → option.Option Values
 array_of (blob_string xs) = option.none
 array_of (simple_string xs) = option.none
 array_of (simple_error xs) = option.none
@@ -104,7 +100,7 @@ array_of (attribute ps v) = option.none
 array_of (push vs) = option.none
 
 -- the elements of `>`
-abbrev pub push_of : Value → Option Values
+abbrev pub push_of : Value → option.Option Values
 push_of (blob_string xs) = option.none
 push_of (simple_string xs) = option.none
 push_of (simple_error xs) = option.none
@@ -137,8 +133,8 @@ pub record Stands (s : Bytes) (c : Cursor) (vs : Values) : Type 0 where
   pub after : drop c.end s ≡ encs (tail_of vs) []
 
 -- the answer is a cursor before the elements, where there are elements
-abbrev pub Holds : Bytes → Elements → Option Values → Type 0
-Holds s (Of c) (some vs) = Stands s c vs
-Holds s (Of c) option.none = ⊥
-Holds s NoList (some vs) = ⊥
-Holds s NoList option.none = Unit
+abbrev pub Holds : Bytes → Option Cursor → option.Option Values → Type 0
+Holds s (Some c) (some vs) = Stands s c vs
+Holds s (Some c) option.none = ⊥
+Holds s None (some vs) = ⊥
+Holds s None option.none = Unit

@@ -9,34 +9,15 @@ ghost use Rattle.resp3.specs.Value.{Value, Values, more, Means};
 ghost use Rattle.resp3_element.specs.Meaning.{value_kind, is_error, is_null, integer_of, blob_of, array_of, push_of, Inside, Stands, Holds};
 ghost use Rattle.resp3_element.specs.Places.{kind_at, null_at, stand_at, list_at, error_at, integer_at, in_range, range_at};
 
-use decimal::Num;
-use resp3::{End, Kind};
+use resp3::Kind;
+use std::ops::Range;
 
 // Stands at an element of a list: where that begins and ends, and how many elements there are from it on.
-#[derive(Clone, Copy)]
+#[derive(Clone, Copy, PartialEq, Eq, Debug)]
 pub struct Cursor {
     pub at: usize,
     pub end: usize,
     pub left: u64,
-}
-
-// A list's elements, from the first one on.
-#[derive(Clone, Copy)]
-pub enum Elements {
-    Of(Cursor),
-    No,
-}
-
-#[derive(Clone, Copy)]
-pub enum Integer {
-    Is(i64),
-    No,
-}
-
-#[derive(Clone, Copy)]
-struct Range {
-    at: usize,
-    end: usize,
 }
 
 fn first_byte(s: &[u8]) -> u8
@@ -53,7 +34,7 @@ pub fn kind(s: &[u8]) -> Kind
     if resp3::null_word_at(s, 0) {
         return Kind::Null;
     }
-    resp3::kind_of(first_byte(s))
+    Kind::from(first_byte(s))
 }
 
 // Whether it is a server error.
@@ -95,55 +76,48 @@ fn negative(n: u64) -> i64
     -1 - (n - 1) as i64
 }
 
-fn integer_at(s: &[u8]) -> Integer
+fn integer_at(s: &[u8]) -> Option<i64>
     ensures { result ≡ integer_at s.now }
 {
     if first_byte(s) != b':' {
-        return Integer::No;
+        return None;
     }
     if s.len() < 2 {
-        return Integer::No;
+        return None;
     }
     if s[1] == b'-' {
-        let Num::Val(n, _) = decimal::read_num(s, 2, 9223372036854775808) else {
-            return Integer::No;
-        };
+        let (n, _) = decimal::read_num(s, 2, 9223372036854775808)?;
         if n == 0 {
-            return Integer::No;
+            return None;
         }
-        return Integer::Is(negative(n));
+        return Some(negative(n));
     }
-    let Num::Val(n, _) = decimal::read_num(s, 1, 9223372036854775807) else {
-        return Integer::No;
-    };
-    Integer::Is(positive(n))
+    let (n, _) = decimal::read_num(s, 1, 9223372036854775807)?;
+    Some(positive(n))
 }
 
 // The integer that it is, if it is one.
-pub fn number(s: &[u8]) -> Integer
+pub fn number(s: &[u8]) -> Option<i64>
     ensures value { (v : Value) → Means s.now v → result ≡ integer_of v }
     ensures any { result ≡ integer_at s.now }
 {
     integer_at(s)
 }
 
-fn range_at(s: &[u8]) -> Range
+// Where a blob string's bytes stand; the empty range of any other value.
+fn range_at(s: &[u8]) -> Range<usize>
     ensures { result ≡ range_at s.now }
 {
-    let none = Range { at: 0, end: 0 };
     if first_byte(s) != b'$' {
-        return none;
+        return 0..0;
     }
-    let Num::Val(n, e) = resp3::length_at(s, 1) else {
-        return none;
+    let Some((n, e)) = resp3::length_at(s, 1) else {
+        return 0..0;
     };
     if n as usize > s.len() - e {
-        return none;
+        return 0..0;
     }
-    Range {
-        at: e,
-        end: e + n as usize,
-    }
+    e..e + n as usize
 }
 
 // The bytes of a blob string, a part of the slice; of any other value none.
@@ -151,10 +125,7 @@ pub fn blob(s: &[u8]) -> &[u8]
     ensures value { (v : Value) → Means s.now v → result.now ≡ blob_of v }
     ensures any { result.now ≡ in_range s.now (range_at s.now) }
 {
-    let p = range_at(s);
-    let a = p.at;
-    let e = p.end;
-    &s[a..e]
+    &s[range_at(s)]
 }
 
 // The cursor that stands where the first of so many elements begins.
@@ -164,35 +135,31 @@ fn stand(s: &[u8], at: usize, left: u64) -> Cursor
     if left == 0 {
         return Cursor { at, end: at, left };
     }
-    match resp3::value_end(s, at, config::MAX_DEPTH) {
-        End::At(e) => Cursor { at, end: e, left },
-        End::Bad => Cursor { at, end: at, left },
-    }
+    let end = resp3::value_end(s, at, config::MAX_DEPTH).unwrap_or(at);
+    Cursor { at, end, left }
 }
 
 // The elements of a list that begins with b.
-fn list(s: &[u8], b: u8) -> Elements
+fn list(s: &[u8], b: u8) -> Option<Cursor>
     ensures { result ≡ list_at b s.now }
 {
     if first_byte(s) != b {
-        return Elements::No;
+        return None;
     }
-    let Num::Val(n, e) = resp3::length_at(s, 1) else {
-        return Elements::No;
-    };
-    Elements::Of(stand(s, e, n))
+    let (n, e) = resp3::length_at(s, 1)?;
+    Some(stand(s, e, n))
 }
 
-// The elements of an array.
-pub fn array(s: &[u8]) -> Elements
+// The elements of an array, from the first one on.
+pub fn array(s: &[u8]) -> Option<Cursor>
     ensures value { (v : Value) → Means s.now v → Holds s.now result (array_of v) }
     ensures any { result ≡ list_at 42 s.now }
 {
     list(s, b'*')
 }
 
-// The elements of a push.
-pub fn push(s: &[u8]) -> Elements
+// The elements of a push, from the first one on.
+pub fn push(s: &[u8]) -> Option<Cursor>
     ensures value { (v : Value) → Means s.now v → Holds s.now result (push_of v) }
     ensures any { result ≡ list_at 62 s.now }
 {

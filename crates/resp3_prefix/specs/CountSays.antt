@@ -1,5 +1,5 @@
 -- What is read of a number is what stands there. Assumes nothing.
-use Rattle.std.specs.Prelude.{◌≡◌, [], ◌∷◌, ◌++◌, ℕ, ◌+◌, ◌≤◌, ◌<◌, leb, eqb, length, get_or, drop}
+use Rattle.std.specs.Prelude.{◌≡◌, [], ◌∷◌, ◌++◌, ℕ, ◌+◌, ◌≤◌, ◌<◌, leb, eqb, length, get_or, drop, Some}
 use Rattle.std.proofs.Common.{sym, ap, ◌∙◌, subst, append-nil, append_assoc, arith, length-append, length-drop, drop_of_length-le}
 use Rattle.std.proofs.Math.ListN.{get_or-append}
 use Rattle.std.proofs.lemmas.List.{drop-append-le, get_or_at}
@@ -8,9 +8,8 @@ use Rattle.buffer.specs.Cases.{by_test}
 use Rattle.buffer.specs.Same.{Bytes}
 use Rattle.decimal.specs.Digits.{digits}
 use Rattle.decimal.specs.Read.{digit_b, crlf_b, lead, val_acc, ended_def, fin_def, num_def}
-use Rattle.decimal.specs.ReadLaws.{fin-within, num-zero, num-more, num-bounds}
+use Rattle.decimal.specs.ReadLaws.{fin-within, num-zero, num-more, num-bounds, lead-within}
 use Rattle.decimal.specs.NumSound.{num-sound}
-use Rattle.decimal.specs.declared.Num.TheVariants.{Val}
 use Rattle.resp3_prefix.specs.declared.Count.{Count}
 use Rattle.resp3_prefix.specs.declared.Count.TheVariants.{Whole, Nothing, Digits, Ended, Never as NoCount}
 use Rattle.resp3_prefix.specs.Begun.{count_end, count_begun}
@@ -19,7 +18,7 @@ use Rattle.resp3_prefix.specs.Counts.{Stops, stops-nil, stops-cr, stops-lf, lead
 
 -- what each answer says
 abbrev pub CountIs : ℕ → Bytes → ℕ → Count → Type 0
-CountIs lim s p (Whole n e) = num_def lim s p ≡ Val n e
+CountIs lim s p (Whole n e) = num_def lim s p ≡ Some (n, e)
 CountIs lim s p Nothing = length s ≤ p
 CountIs lim s p (Digits m) = (m ≤ lim) × (drop p s ≡ digits m)
 CountIs lim s p (Ended m) = (m ≤ lim) × (drop p s ≡ digits m ++ (13 ∷ []))
@@ -28,7 +27,7 @@ CountIs lim s p NoCount = Unit {0}
 module _ (lim : ℕ) (s : Bytes) (p i v : ℕ) (o : p ≤ i) (j : i ≤ length s) (l : v ≤ lim)
     (reads : (w : Bytes) → Stops w → num_def lim (s ++ w) p ≡ fin_def lim (s ++ w) i v) where
   -- with a CR LF that w completes, the number is whole
-  filled : (w : Bytes) → Stops w → get_or (s ++ w) i 0 ≡ 13 → get_or (s ++ w) (i + 1) 0 ≡ 10 → num_def lim (s ++ w) p ≡ Val v (i + 2)
+  filled : (w : Bytes) → Stops w → get_or (s ++ w) i 0 ≡ 13 → get_or (s ++ w) (i + 1) 0 ≡ 10 → num_def lim (s ++ w) p ≡ Some (v, i + 2)
   unfolding ended_def crlf_b
   filled w k a b = reads w k ∙ fin-within lim (s ++ w) i v l ∙ rw (a, b)
 
@@ -57,10 +56,10 @@ module _ (lim : ℕ) (s : Bytes) (p i v : ℕ) (o : p ≤ i) (j : i ≤ length s
       let b : get_or (s ++ w) (i + 1) 0 ≡ 10 = get_or_at s 10 [] 0 (i + 1) (omega arith) in
       same-front (drop p s) (digits v ++ (13 ∷ [])) w (told w (stops-lf []) a b (omega arith) ∙ sym (append_assoc (digits v) (13 ∷ []) w))
 
-  at-whole : get_or s i 0 ≡ 13 → get_or s (i + 1) 0 ≡ 10 → num_def lim s p ≡ Val v (i + 2)
+  at-whole : get_or s i 0 ≡ 13 → get_or s (i + 1) 0 ≡ 10 → num_def lim s p ≡ Some (v, i + 2)
   at-whole c g =
       let n = append-nil s in
-      subst (λ (u : Bytes). num_def lim u p ≡ Val v (i + 2)) n
+      subst (λ (u : Bytes). num_def lim u p ≡ Some (v, i + 2)) n
       (filled [] stops-nil (ap (λ (u : Bytes). get_or u i 0) n ∙ c) (ap (λ (u : Bytes). get_or u (i + 1) 0) n ∙ g))
 
   end-says : CountIs lim s p (count_end s i v)
@@ -77,11 +76,6 @@ module _ (lim : ℕ) (s : Bytes) (p i v : ℕ) (o : p ≤ i) (j : i ≤ length s
       (λ u. rw (t, c, u) (l, at_ended h x (leb-true (length s) (i + 1) u)))
       (λ u. by_test (eqb (get_or s (i + 1) 0) 10) (λ f. rw (t, c, u, f) (at-whole x (eqb-true (get_or s (i + 1) 0) 10 f))) (λ f. rw (t, c, u, f) tt)))
       (λ c. rw (t, c) tt))
-
--- how many digits a list begins with
-lead-within : (t : Bytes) → lead t ≤ length t
-lead-within [] = omega arith
-lead-within (x ∷ t) = let k = lead-within t in by_test (digit_b x) (λ e. rw e (omega arith)) (λ e. rw e (omega arith))
 
 -- a number that begins with 0, and one that does not, are read the same where something follows
 zero-reads : (lim : ℕ) (s : Bytes) (p : ℕ) → p < length s → get_or s p 0 ≡ 48 → (w : Bytes) → num_def lim (s ++ w) p ≡ fin_def lim (s ++ w) (p + 1) 0

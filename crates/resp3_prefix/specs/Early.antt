@@ -1,5 +1,5 @@
 -- Bytes that end inside something valid are found to lack no more than it has behind them: values with none inside. Assumes nothing.
-use Rattle.std.specs.Prelude.{◌≡◌, Bool, true, false, cond, leb, get_or, ℤ, pos, negsuc}
+use Rattle.std.specs.Prelude.{◌≡◌, Bool, true, false, cond, leb, get_or, ℤ, pos, negsuc, Result, Err}
 use Rattle.std.proofs.Math.Path.{refl, ap}
 use Rattle.std.proofs.Common.{sym, ◌∙◌, drop_of_length-le}
 use mathlib.Core.List.{[], ◌∷◌, ◌++◌, append_assoc, append-nil}
@@ -16,8 +16,8 @@ use Rattle.decimal.specs.DigitLaws.{count-pos}
 use Rattle.decimal.specs.NumLaw.{head-ge}
 use Rattle.resp3.specs.Value.{crlf, counted, framed, integer, plain_b, one_line, Fits64}
 use Rattle.resp3.specs.Ends.{plain}
-use Rattle.resp3_prefix.specs.declared.Begun.{Begun}
-use Rattle.resp3_prefix.specs.declared.Begun.TheVariants.{Lacks}
+use Rattle.resp3_prefix.specs.declared.NotWhole.{NotWhole}
+use Rattle.resp3_prefix.specs.declared.NotWhole.TheVariants.{Lacks}
 use Rattle.resp3_prefix.specs.Begun.{crlf_begun, count_begun, line_begun, blob_begun, string_begun, one_begun, verbatim_body, verbatim_digits, verbatim_begun}
 use Rattle.resp3_prefix.specs.Begun.{digits_of, minus_of, integer_begun, boolean_begun}
 use Rattle.resp3_prefix.specs.Paths as paths
@@ -27,7 +27,7 @@ use Rattle.resp3_prefix.specs.Counts.{Stands, whole, nothing, digits-all, digits
 use Rattle.resp3_prefix.specs.Pieces.{Early, lacks, cr-only, frame-early, plain_body, line-front}
 
 -- the same, in other words
-pub early-as : {x y : Begun} {n : ℕ} → y ≡ x → Early x n → Early y n
+pub early-as : {x y : Result ℕ NotWhole} {n : ℕ} → y ≡ x → Early x n → Early y n
 early-as e h = record { k = h.k; is = e ∙ h.is; least = h.least }
 
 -- a byte and what follows it: none of it stands there, or the byte does
@@ -87,7 +87,7 @@ module _ (s : Bytes) (p : ℕ) (l : p ≤ length s) (q : Bytes) (o : 0 < length 
       by_test (leb (length s) p)
       (λ t.
       let i = leb-true (length s) p t in
-      let five : Lacks z.k ≡ Lacks 5 = sym z.is ∙ paths.blob-is s p _ (paths.count-out max_bytes s p i) in
+      let five : ◌≡◌ {A = Result ℕ NotWhole} (Err (Lacks z.k)) (Err (Lacks 5)) = sym z.is ∙ paths.blob-is s p _ (paths.count-out max_bytes s p i) in
       let k : z.k ≡ 5 = cc in
       lacks 4 (nulls.string-out s p i) (omega (arith, z.least)))
       (λ t. early-as (nulls.string-in s p (leb-false (length s) p t)) z)

@@ -1,5 +1,5 @@
 -- Bytes that end inside a valid value are found to lack no more than the value has behind them: rows, and whole values. Assumes nothing.
-use Rattle.std.specs.Prelude.{◌≡◌, [], ◌++◌, ℕ, suc, ◌+◌, ◌*◌, ◌-◌, ◌≤◌, ◌<◌, leb, eqb, length, drop, ℤ, pos, negsuc}
+use Rattle.std.specs.Prelude.{◌≡◌, [], ◌++◌, ℕ, suc, ◌+◌, ◌*◌, ◌-◌, ◌≤◌, ◌<◌, leb, eqb, length, drop, ℤ, pos, negsuc, Ok, Err}
 use Rattle.std.proofs.Common.{sym, ap, ◌∙◌, subst, arith, length-append, leb-true, leb-false, eqb-true}
 use Rattle.std.proofs.lemmas.Bool.{eqb-false}
 use Rattle.buffer.specs.Cases.{by_test}
@@ -12,7 +12,7 @@ use Rattle.resp3.specs.Value.{blob_error, verbatim_string, big_number, array, ma
 use Rattle.resp3.specs.Value.{crlf, counted, integer, enc, encs}
 use Rattle.resp3.specs.Rows.{longer, room, room_pairs}
 use Rattle.resp3.proofs.Complete.{read-law}
-use Rattle.resp3_prefix.specs.declared.Begun.TheVariants.{Ends, Lacks}
+use Rattle.resp3_prefix.specs.declared.NotWhole.TheVariants.{Lacks}
 use Rattle.resp3_prefix.specs.declared.Count.{Count}
 use Rattle.resp3_prefix.specs.Begun.{lacking_row, lacking_below, count_begun, alone_of, row_of, head_then, value_begun, row_begun}
 use Rattle.resp3_prefix.specs.Paths as paths
@@ -83,7 +83,7 @@ module _ (d : ℕ) (s : Bytes) (small : length s ≤ max_bytes)
       let z = read-law d s v ok deep at m (h ∙ sym (enc-more v [] m)) in
       let y = (value-agree d s small at).1 z.e z.is in
       let j : suc (count ws) - 1 ≡ count ws = omega arith in
-      (z.e, z.within, z.rest, paths.row_one d s (suc (count ws)) at (Ends z.e) (omega arith) y ∙ ap (λ (i : ℕ). row_begun d s i z.e) j)
+      (z.e, z.within, z.rest, paths.row_one d s (suc (count ws)) at (Ok z.e) (omega arith) y ∙ ap (λ (i : ℕ). row_begun d s i z.e) j)
 
   rows-early : (vs : Values) → Valids vs → deepest vs ≤ d → length (encs vs []) ≤ max_bytes → (at : ℕ) → at ≤ length s → (q : Bytes) → 0 < length q
       → encs vs [] ≡ drop at s ++ q
@@ -122,7 +122,7 @@ module _ (d : ℕ) (s : Bytes) (small : length s ≤ max_bytes)
           let c = y.least in
           let j : suc (count ws) - 1 ≡ count ws = omega arith in
           let r = rows_long ws [] in
-          early-as (paths.row_one d s (suc (count ws)) at (Lacks y.k) (omega arith) y.is ∙ ap (λ (n : ℕ). lacking_row y.k n) j)
+          early-as (paths.row_one d s (suc (count ws)) at (Err (Lacks y.k)) (omega arith) y.is ∙ ap (λ (n : ℕ). lacking_row y.k n) j)
           (row-early y.k (count ws) (length q) (omega arith) (omega arith)))
 
   -- rows behind their count

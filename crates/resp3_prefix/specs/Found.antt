@@ -1,5 +1,5 @@
 -- Bytes that lack k begin the bytes of something valid, which is exactly k longer: values with none inside. Assumes nothing.
-use Rattle.std.specs.Prelude.{◌≡◌, Bool, true, false, cond, leb, eqb, get_or, ℤ, pos, negsuc}
+use Rattle.std.specs.Prelude.{◌≡◌, Bool, true, false, cond, leb, eqb, get_or, ℤ, pos, negsuc, Ok, Err, Result}
 use Rattle.std.proofs.Math.Path.{refl, sym, ap}
 use Rattle.std.proofs.Common.{◌∙◌, drop-drop, take_all}
 use mathlib.Core.List.{[], ◌∷◌, ◌++◌, append_assoc}
@@ -15,7 +15,8 @@ use Rattle.decimal.specs.Digits.{digits}
 use Rattle.decimal.specs.NumSound.{num-sound}
 use Rattle.resp3.specs.Value.{crlf, counted, framed, integer, one_line, Fits64}
 use Rattle.resp3.specs.Ends.{plain}
-use Rattle.resp3_prefix.specs.declared.Begun.TheVariants.{Ends, Lacks, Never}
+use Rattle.resp3_prefix.specs.declared.NotWhole.{NotWhole}
+use Rattle.resp3_prefix.specs.declared.NotWhole.TheVariants.{Lacks, Never}
 use Rattle.resp3_prefix.specs.declared.Count.{Count}
 use Rattle.resp3_prefix.specs.declared.Count.TheVariants.{Whole, Nothing, Digits, Ended, Never as NoCount}
 use Rattle.resp3_prefix.specs.Begun.{crlf_begun, count_begun, line_begun, blob_of, blob_begun, digits_of, minus_of, integer_begun, boolean_begun}
@@ -29,13 +30,13 @@ pub record Rest (b s : Bytes) (p k : ℕ) : Type 0 where
   pub is : b ≡ drop p s ++ q
   pub long : length q ≡ k
 
-pub lacks-same : (a b : ℕ) → Lacks a ≡ Lacks b → a ≡ b
+pub lacks-same : (a b : ℕ) → ◌≡◌ {A = Result ℕ NotWhole} (Err (Lacks a)) (Err (Lacks b)) → a ≡ b
 lacks-same a b h = cc
 
-pub never-lacks : (k : ℕ) → Never ≡ Lacks k → ⊥
+pub never-lacks : (k : ℕ) → ◌≡◌ {A = Result ℕ NotWhole} (Err Never) (Err (Lacks k)) → ⊥
 never-lacks k h = let z : ◌≡◌ {A = ℕ} 0 1 = cc in omega arith
 
-pub ends-lacks : (e k : ℕ) → Ends e ≡ Lacks k → ⊥
+pub ends-lacks : (e k : ℕ) → ◌≡◌ {A = Result ℕ NotWhole} (Ok e) (Err (Lacks k)) → ⊥
 ends-lacks e k h = let z : ◌≡◌ {A = ℕ} 0 1 = cc in omega arith
 
 -- ---- a number, and what follows it
@@ -66,13 +67,13 @@ module _ (s : Bytes) (p : ℕ) where
 
   -- ---- blobs and lines
 
-  pub crlf-found : (k : ℕ) → p ≤ length s → crlf_begun s p ≡ Lacks k → Rest (crlf []) s p k
+  pub crlf-found : (k : ℕ) → p ≤ length s → crlf_begun s p ≡ Err (Lacks k) → Rest (crlf []) s p k
   crlf-found k l h =
       let f = frame_found s p p k l (omega arith) h in
       let x = none_left f.x (omega (arith, f.ends)) in
       record { q = f.q; is = ap (λ (y : Bytes). y ++ crlf []) (sym x) ∙ f.is; long = f.long }
 
-  pub line-found : (k : ℕ) → p ≤ length s → line_begun s p ≡ Lacks k → (x : Bytes) × (one_line x ≡ true) × Rest (x ++ crlf []) s p k
+  pub line-found : (k : ℕ) → p ≤ length s → line_begun s p ≡ Err (Lacks k) → (x : Bytes) × (one_line x ≡ true) × Rest (x ++ crlf []) s p k
   unfolding line_begun
   line-found k l h =
       let t : Bytes = drop p s in
@@ -86,11 +87,11 @@ module _ (s : Bytes) (p : ℕ) where
       let g : x ++ (13 ∷ []) ≡ t = ap (λ (y : Bytes). x ++ y) (sym (drop-drop (plain t) p s ∙ d)) ∙ take-append-drop (plain t) t in
       (x, plain-line t, record { q = 10 ∷ []; is = sym (append_assoc x (13 ∷ []) (10 ∷ [])) ∙ ap (λ (y : Bytes). y ++ (10 ∷ [])) g; long = n }))
 
-  pub blob-found : (k : ℕ) → blob_begun s p ≡ Lacks k → (x : Bytes) × Rest (framed x []) s p k
+  pub blob-found : (k : ℕ) → blob_begun s p ≡ Err (Lacks k) → (x : Bytes) × Rest (framed x []) s p k
   unfolding blob_begun digits
   blob-found k h = go (count_begun max_bytes s p) refl h
     where
-      go : (c : Count) → count_begun max_bytes s p ≡ c → blob_of s c ≡ Lacks k → (x : Bytes) × Rest (framed x []) s p k
+      go : (c : Count) → count_begun max_bytes s p ≡ c → blob_of s c ≡ Err (Lacks k) → (x : Bytes) × Rest (framed x []) s p k
       go (Whole n e) c h =
           let b = whole-bounds max_bytes s p n e c in
           let f = frame_found s e (e + n) k b.1 (omega arith) h in (
@@ -132,7 +133,7 @@ module _ (s : Bytes) (p : ℕ) where
   -- ---- integers and booleans
 
   -- digits
-  digits-found : (lim k : ℕ) (c : Count) → count_begun lim s p ≡ c → digits_of c ≡ Lacks k → (n : ℕ) × (n ≤ lim) × Rest (counted n []) s p k
+  digits-found : (lim k : ℕ) (c : Count) → count_begun lim s p ≡ c → digits_of c ≡ Err (Lacks k) → (n : ℕ) × (n ≤ lim) × Rest (counted n []) s p k
   unfolding digits
   digits-found lim k (Whole n e) c h = absurd (ends-lacks e k h)
   digits-found lim k Nothing c h = (0, omega arith, record { q = counted 0 []; is = fill-nothing 0 [] (count-says lim s p Nothing c); long = lacks-same 3 k h })
@@ -145,7 +146,7 @@ module _ (s : Bytes) (p : ℕ) where
   digits-found lim k NoCount c h = absurd (never-lacks k h)
 
   -- digits that are not 0
-  minus-found : (lim k : ℕ) (c : Count) → 1 ≤ lim → count_begun lim s p ≡ c → minus_of c ≡ Lacks k → (n : ℕ) × (n < lim) × Rest (counted (suc n) []) s p k
+  minus-found : (lim k : ℕ) (c : Count) → 1 ≤ lim → count_begun lim s p ≡ c → minus_of c ≡ Err (Lacks k) → (n : ℕ) × (n < lim) × Rest (counted (suc n) []) s p k
   unfolding digits
   minus-found lim k (Whole n e) o c h = absurd (by_test (eqb n 0) (λ t. never-lacks k (rw t at h)) (λ t. ends-lacks e k (rw t at h)))
   minus-found lim k Nothing o c h =
@@ -179,7 +180,7 @@ rest-behind s p x k b l e r =
     }
 
 module _ (s : Bytes) (p k : ℕ) where
-  pub integer-found : integer_begun s p ≡ Lacks k → (z : ℤ) × Fits64 z × Rest (integer z ++ crlf []) s p k
+  pub integer-found : integer_begun s p ≡ Err (Lacks k) → (z : ℤ) × Fits64 z × Rest (integer z ++ crlf []) s p k
   unfolding integer_begun
   integer-found h =
       by_test (eqb (get_or s p 0) 45)
@@ -192,7 +193,7 @@ module _ (s : Bytes) (p k : ℕ) where
       let b = f.1 in
       (pos f.0, omega arith, f.2))
 
-  pub boolean-found : p ≤ length s → boolean_begun s p ≡ Lacks k → (b : Bool) × Rest (cond b 116 102 ∷ crlf []) s p k
+  pub boolean-found : p ≤ length s → boolean_begun s p ≡ Err (Lacks k) → (b : Bool) × Rest (cond b 116 102 ∷ crlf []) s p k
   unfolding boolean_begun
   boolean-found l h =
       by_test (leb (length s) p)

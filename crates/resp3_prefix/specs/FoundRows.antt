@@ -1,5 +1,5 @@
 -- Bytes that lack k begin a value's bytes, which are exactly k longer: rows, and whole values. Assumes nothing.
-use Rattle.std.specs.Prelude.{◌≡◌, leb, get_or}
+use Rattle.std.specs.Prelude.{◌≡◌, leb, get_or, Result, Ok, Err}
 use Rattle.std.proofs.Math.Path.{refl, sym, ap}
 use Rattle.std.proofs.Common.{◌∙◌, arith, length-append}
 use Rattle.std.proofs.Math.Logic.{⊎_elim}
@@ -22,8 +22,8 @@ use Rattle.resp3.specs.Value.{verbatim_string, big_number, more, count, below, d
 use Rattle.resp3.specs.Rows.{enc-is}
 use Rattle.resp3.specs.Ends.{null_word_b}
 use Rattle.resp3.specs.Sound.{end-sound}
-use Rattle.resp3_prefix.specs.declared.Begun.{Begun}
-use Rattle.resp3_prefix.specs.declared.Begun.TheVariants.{Ends, Lacks, Never}
+use Rattle.resp3_prefix.specs.declared.NotWhole.{NotWhole}
+use Rattle.resp3_prefix.specs.declared.NotWhole.TheVariants.{Lacks, Never}
 use Rattle.resp3_prefix.specs.declared.Count.{Count}
 use Rattle.resp3_prefix.specs.declared.Count.TheVariants.{Whole, Nothing, Digits, Ended, Never as NoCount}
 use Rattle.resp3_prefix.specs.Begun.{lacking_below, count_begun, alone_of, row_of, body_begun, kind_begun, head_begun, head_then}
@@ -57,9 +57,9 @@ record RowFound (d : ℕ) (s : Bytes) (n at k : ℕ) : Type 0 where
 pub enc-more : (v : Value) (a b : Bytes) → enc v (a ++ b) ≡ enc v a ++ b
 enc-more v a b = enc-is v (a ++ b) ∙ sym (append_assoc (encode v) a b) ∙ ap (λ (x : Bytes). x ++ b) (sym (enc-is v a))
 
-module _ (d : ℕ) (s : Bytes) (small : length s ≤ max_bytes) (one : (at k : ℕ) → at ≤ length s → value_begun d s at ≡ Lacks k → Found d s at k) where
+module _ (d : ℕ) (s : Bytes) (small : length s ≤ max_bytes) (one : (at k : ℕ) → at ≤ length s → value_begun d s at ≡ Err (Lacks k) → Found d s at k) where
   -- a value that is whole before a row
-  row-behind : (n q x k : ℕ) → value_begun d s q ≡ Ends x → RowFound d s n x k → RowFound d s (suc n) q k
+  row-behind : (n q x k : ℕ) → value_begun d s q ≡ Ok x → RowFound d s n x k → RowFound d s (suc n) q k
   row-behind n q x k e f =
       let w = end-sound d s q x ((value-agree d s small q).0 x e) in
       let a = f.deep in
@@ -98,16 +98,16 @@ module _ (d : ℕ) (s : Bytes) (small : length s ≤ max_bytes) (one : (at k : �
             };
       }
 
-  row-found : (n q k : ℕ) → q ≤ length s → row_begun d s n q ≡ Lacks k → RowFound d s n q k
+  row-found : (n q k : ℕ) → q ≤ length s → row_begun d s n q ≡ Err (Lacks k) → RowFound d s n q k
   unfolding row_begun iter
   row-found zero q k l h = absurd (ends-lacks q k h)
   row-found (suc n) q k l h = go (value_begun d s q) refl h (λ x i j. row-found n x k i j)
     where
-      go : (x : Begun) → value_begun d s q ≡ x → begun_then x n (λ z. iter (λ y. value_begun d s y) n z) ≡ Lacks k
-          → ((z : ℕ) → z ≤ length s → row_begun d s n z ≡ Lacks k → RowFound d s n z k) → RowFound d s (suc n) q k
-      go (Ends x) e h f = row-behind n q x k e (f x (end-bounds d s q x ((value-agree d s small q).0 x e)).1 h)
-      go (Lacks j) e h f = row-nulls n q j k (one q j l e) (row-says j n k h)
-      go Never e h f = absurd (never-lacks k h)
+      go : (x : Result ℕ NotWhole) → value_begun d s q ≡ x → begun_then x n (λ z. iter (λ y. value_begun d s y) n z) ≡ Err (Lacks k)
+          → ((z : ℕ) → z ≤ length s → row_begun d s n z ≡ Err (Lacks k) → RowFound d s n z k) → RowFound d s (suc n) q k
+      go (Ok x) e h f = row-behind n q x k e (f x (end-bounds d s q x ((value-agree d s small q).0 x e)).1 h)
+      go (Err (Lacks j)) e h f = row-nulls n q j k (one q j l e) (row-says j n k h)
+      go (Err Never) e h f = absurd (never-lacks k h)
 
   -- ---- behind a first byte
 
@@ -127,21 +127,21 @@ module _ (d : ℕ) (s : Bytes) (small : length s ≤ max_bytes) (one : (at k : �
     made kind a b n m ws c o e r =
         record { v = m.make n ws; ok = m.valid n ws c o; deep = m.deep n ws d c e; body = counted n (encs ws []); is = m.written n ws [] c; rest = r }
 
-    made-nulls : (kind : Kind) (a b n x : ℕ) (m : Makes kind a b) → lacking_below d x (a * n + b) ≡ Lacks k
+    made-nulls : (kind : Kind) (a b n x : ℕ) (m : Makes kind a b) → lacking_below d x (a * n + b) ≡ Err (Lacks k)
         → ((j : ℕ) → x + 3 * (a * n + b) ≡ j → Rest (counted n (encs (nulls (a * n + b)) [])) s p j) → Fills kind p k
     made-nulls kind a b n x m h f =
         let z = below-says d x (a * n + b) k h in
         made kind a b n m (nulls (a * n + b)) (nulls-count (a * n + b)) (nulls-valid (a * n + b)) z.1 (f k z.0)
 
     rowed : (kind : Kind) (a b : ℕ) → Makes kind a b → ((a * 0 + b) ≡ b)
-        → head_then (row_of d a b (count_begun max_bytes s p)) (λ n e. row_begun d s n e) ≡ Lacks k → Fills kind p k
+        → head_then (row_of d a b (count_begun max_bytes s p)) (λ n e. row_begun d s n e) ≡ Err (Lacks k) → Fills kind p k
     unfolding digits
     rowed kind a b m zb h = go (count_begun max_bytes s p) refl h
       where
-        alone : (x n : ℕ) → head_then (alone_of (lacking_below d x n)) (λ n e. row_begun d s n e) ≡ Lacks k → lacking_below d x n ≡ Lacks k
+        alone : (x n : ℕ) → head_then (alone_of (lacking_below d x n)) (λ n e. row_begun d s n e) ≡ Err (Lacks k) → lacking_below d x n ≡ Err (Lacks k)
         alone x n h = sym (alone-is d s (lacking_below d x n)) ∙ h
 
-        go : (c : Count) → count_begun max_bytes s p ≡ c → head_then (row_of d a b c) (λ n e. row_begun d s n e) ≡ Lacks k → Fills kind p k
+        go : (c : Count) → count_begun max_bytes s p ≡ c → head_then (row_of d a b c) (λ n e. row_begun d s n e) ≡ Err (Lacks k) → Fills kind p k
         go (Whole n e) c h =
             let w = whole-bounds max_bytes s p n e c in
             let r = row-found (a * n + b) e k w.1 h in
@@ -188,7 +188,7 @@ module _ (d : ℕ) (s : Bytes) (small : length s ≤ max_bytes) (one : (at k : �
     single : (kind : Kind) (v : Value) (body : Bytes) → Valid v → below v ≤ d → enc v [] ≡ byte_of kind ∷ body → Rest body s p k → Fills kind p k
     single kind v body o l e r = record { v = v; ok = o; deep = l; body = body; is = e; rest = r }
 
-    by_kind : (kind : Kind) → p ≤ length s → head_then (body_begun d kind s p) (λ n e. row_begun d s n e) ≡ Lacks k → Fills kind p k
+    by_kind : (kind : Kind) → p ≤ length s → head_then (body_begun d kind s p) (λ n e. row_begun d s n e) ≡ Err (Lacks k) → Fills kind p k
     unfolding body_begun
     by_kind BlobString l h =
         ⊎_elim
@@ -237,12 +237,13 @@ module _ (d : ℕ) (s : Bytes) (small : length s ≤ max_bytes) (one : (at k : �
       }
 
   -- no kind begins nothing
-  unknown : (at k : ℕ) → kind_of (get_or s at 0) ≡ Unknown → head_then (body_begun d (kind_of (get_or s at 0)) s (at + 1)) (λ n e. row_begun d s n e) ≡ Lacks k → ⊥
+  unknown : (at k : ℕ) → kind_of (get_or s at 0) ≡ Unknown
+      → head_then (body_begun d (kind_of (get_or s at 0)) s (at + 1)) (λ n e. row_begun d s n e) ≡ Err (Lacks k) → ⊥
   unfolding body_begun
   unknown at k u h = never-lacks k (rw u at h)
 
   -- a value, by the kind of its first byte
-  kind-opened : (at k : ℕ) → head_then (kind_begun d s at) (λ n e. row_begun d s n e) ≡ Lacks k → Found (suc d) s at k
+  kind-opened : (at k : ℕ) → head_then (kind_begun d s at) (λ n e. row_begun d s n e) ≡ Err (Lacks k) → Found (suc d) s at k
   unfolding kind_begun
   kind-opened at k h =
       by_test (leb (length s) at)
@@ -267,7 +268,7 @@ module _ (d : ℕ) (s : Bytes) (small : length s ≤ max_bytes) (one : (at k : �
       (λ u. absurd (unknown at k u b))
       (kind-known (get_or s at 0)))
 
-  value-opened : (at k : ℕ) → value_begun (suc d) s at ≡ Lacks k → Found (suc d) s at k
+  value-opened : (at k : ℕ) → value_begun (suc d) s at ≡ Err (Lacks k) → Found (suc d) s at k
   unfolding value_begun head_begun row_begun
   value-opened at k h =
       by_test (null_word_b s at)
@@ -277,11 +278,11 @@ module _ (d : ℕ) (s : Bytes) (small : length s ≤ max_bytes) (one : (at k : �
       (λ w. kind-opened at k (rw w at h))
 
 -- no value nests at most 0 deep
-zero-never : (s : Bytes) (at k : ℕ) → value_begun 0 s at ≡ Lacks k → Never ≡ Lacks k
+zero-never : (s : Bytes) (at k : ℕ) → value_begun 0 s at ≡ Err (Lacks k) → ◌≡◌ {A = Result ℕ NotWhole} (Err Never) (Err (Lacks k))
 unfolding value_begun
 zero-never s at k h = h
 
 -- bytes that lack k begin a value's, which is k longer
-pub value_found : (d : ℕ) (s : Bytes) → length s ≤ max_bytes → (at k : ℕ) → at ≤ length s → value_begun d s at ≡ Lacks k → Found d s at k
+pub value_found : (d : ℕ) (s : Bytes) → length s ≤ max_bytes → (at k : ℕ) → at ≤ length s → value_begun d s at ≡ Err (Lacks k) → Found d s at k
 value_found zero s small at k l h = absurd (never-lacks k (zero-never s at k h))
 value_found (suc d) s small at k l h = value-opened d s small (λ a j i e. value_found d s small a j i e) at k h

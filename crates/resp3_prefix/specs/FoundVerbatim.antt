@@ -1,5 +1,5 @@
 -- Verbatim strings of which a beginning stands in the bytes: some string begins so, and is as much longer as is said. Assumes nothing.
-use Rattle.std.specs.Prelude.{◌≡◌, ℕ, ◌+◌, ◌*◌, ◌-◌, ◌/◌, ◌%◌, ◌≤◌, ◌<◌, leb, eqb, get_or, take, drop}
+use Rattle.std.specs.Prelude.{◌≡◌, ℕ, ◌+◌, ◌*◌, ◌-◌, ◌/◌, ◌%◌, ◌≤◌, ◌<◌, leb, eqb, get_or, take, drop, Err}
 use Rattle.std.proofs.Math.Path.{refl, ap}
 use Rattle.std.proofs.Common.{sym, ◌∙◌, arith, length-drop, take-append-drop, drop-drop, length-take-le}
 use mathlib.Core.List.{[], ◌∷◌, ◌++◌, append_assoc}
@@ -13,7 +13,7 @@ use Rattle.config.specs.Limits.{max_bytes}
 use Rattle.decimal.specs.Digits.{digits}
 use Rattle.decimal.specs.DigitLaws.{digits_more}
 use Rattle.resp3.specs.Value.{crlf, counted, framed}
-use Rattle.resp3_prefix.specs.declared.Begun.TheVariants.{Lacks}
+use Rattle.resp3_prefix.specs.declared.NotWhole.TheVariants.{Lacks}
 use Rattle.resp3_prefix.specs.declared.Count.{Count}
 use Rattle.resp3_prefix.specs.declared.Count.TheVariants.{Whole, Nothing, Digits, Ended, Never as NoCount}
 use Rattle.resp3_prefix.specs.Begun.{crlf_begun, count_begun, verbatim_body, verbatim_digits, verbatim_of, verbatim_begun}
@@ -44,7 +44,7 @@ tenfold m z =
 
 module _ (s : Bytes) (p k : ℕ) where
   -- of its length, digits stand there
-  of-digits : (m : ℕ) → drop p s ≡ digits m → verbatim_digits m ≡ Lacks k → VerbatimFound s p k
+  of-digits : (m : ℕ) → drop p s ≡ digits m → verbatim_digits m ≡ Err (Lacks k) → VerbatimFound s p k
   unfolding verbatim_digits
   of-digits m d h =
       by_test (leb 4 m)
@@ -80,7 +80,7 @@ module _ (s : Bytes) (p k : ℕ) where
         },
       )))
 
-  module _ (n e : ℕ) (b : e ≤ length s) (d : drop p s ≡ counted n (drop e s)) (four : 4 ≤ n) (h : crlf_begun s (e + n) ≡ Lacks k) where
+  module _ (n e : ℕ) (b : e ≤ length s) (d : drop p s ≡ counted n (drop e s)) (four : 4 ≤ n) (h : crlf_begun s (e + n) ≡ Err (Lacks k)) where
     -- the bytes end before the colon
     before_colon : length s ≤ e + 3 → VerbatimFound s p k
     before_colon l =
@@ -133,11 +133,11 @@ module _ (s : Bytes) (p k : ℕ) where
           },
         )
 
-  pub verbatim-found : verbatim_begun s p ≡ Lacks k → VerbatimFound s p k
+  pub verbatim-found : verbatim_begun s p ≡ Err (Lacks k) → VerbatimFound s p k
   unfolding verbatim_begun verbatim_body digits
   verbatim-found h = go (count_begun max_bytes s p) refl h
     where
-      go : (c : Count) → count_begun max_bytes s p ≡ c → verbatim_of s c ≡ Lacks k → VerbatimFound s p k
+      go : (c : Count) → count_begun max_bytes s p ≡ c → verbatim_of s c ≡ Err (Lacks k) → VerbatimFound s p k
       go (Whole n e) c h =
           let b = whole-bounds max_bytes s p n e c in
           let d = behind s p max_bytes n e c in

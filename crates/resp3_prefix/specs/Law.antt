@@ -1,21 +1,20 @@
 -- The reader says what Meaning.antt says: complete with length n exactly if the first n bytes are a value; bytes are lacking exactly if some value begins
 -- with these and none is complete, and then the least number of them; never exactly otherwise. What is complete or never stays so whatever follows.
 -- Assumes nothing.
-use Rattle.std.specs.Prelude.{◌≡◌, refl, ◌↔◌, [], ◌++◌, ℕ, ◌+◌, ◌-◌, ◌≤◌, ◌<◌, leb, eqb, length, take, drop}
+use Rattle.std.specs.Prelude.{◌≡◌, refl, ◌↔◌, [], ◌++◌, ℕ, ◌+◌, ◌-◌, ◌≤◌, ◌<◌, leb, eqb, length, take, drop, Some, Result, Ok, Err}
 use Rattle.std.proofs.Common.{sym, ap, ◌∙◌, subst, append_assoc, append-nil, arith, length-append, length-take, length-drop, take-append-drop, take_all, leb-true, leb-false, le-leb, eqb-true}
 use Rattle.std.proofs.Math.Seq.{take-append-add}
 use Rattle.std.proofs.lemmas.Bool.{eqb-false}
 use Rattle.buffer.specs.Cases.{by_test}
 use Rattle.buffer.specs.Same.{Bytes}
 use Rattle.config.specs.Limits.{max_bytes, max_depth}
-use Rattle.resp3.specs.declared.End.TheVariants.{At}
 use Rattle.resp3.specs.Value.{encode}
 use Rattle.resp3.specs.Rows.{enc-is}
 use Rattle.resp3.specs.Ends.{value_end}
 use Rattle.resp3.proofs.Complete.{read-law}
 use Rattle.resp3.specs.Sound.{end-sound}
-use Rattle.resp3_prefix.specs.declared.Begun.{Begun}
-use Rattle.resp3_prefix.specs.declared.Begun.TheVariants.{Ends, Lacks, Never}
+use Rattle.resp3_prefix.specs.declared.NotWhole.{NotWhole}
+use Rattle.resp3_prefix.specs.declared.NotWhole.TheVariants.{Lacks, Never}
 use Rattle.resp3_prefix.specs.Begun.{value_begun, within, first_value}
 use Rattle.resp3_prefix.specs.Meaning.{Complete, Begins, NoneComplete, NoneBegins}
 use Rattle.resp3_prefix.specs.Split.{cut, none_left}
@@ -42,7 +41,7 @@ front-begins s x r l e =
 -- ---- complete
 
 -- a value that is complete is found
-pub found-complete : (s : Bytes) (n : ℕ) → Complete s n → first_value s ≡ Ends n
+pub found-complete : (s : Bytes) (n : ℕ) → Complete s n → first_value s ≡ Ok n
 unfolding first_value
 found-complete s n c =
     let w = c.within in
@@ -54,14 +53,14 @@ found-complete s n c =
     let y = (value-agree max_depth t (front-small s) 0).1 z.e z.is in
     let h = z.within in
     let i : z.e ≡ n = omega (arith, c.long, ap length b, length-append E r, ap length z.rest, length-drop z.e t) in
-    ap (within (length s)) y ∙ ap Ends i
+    ap (within (length s)) y ∙ ap Ok i
 
 -- what is found complete is
-pub complete-found : (s : Bytes) (n : ℕ) → first_value s ≡ Ends n → Complete s n
+pub complete-found : (s : Bytes) (n : ℕ) → first_value s ≡ Ok n → Complete s n
 unfolding first_value
 complete-found s n h = go (value_begun max_depth (front s) 0) refl h
   where
-    at : (e : ℕ) → e ≡ n → value_end max_depth (front s) 0 ≡ At e → Complete s n
+    at : (e : ℕ) → e ≡ n → value_end max_depth (front s) 0 ≡ Some e → Complete s n
     at e i v =
         let t : Bytes = front s in
         let w = end-sound max_depth t 0 e v in
@@ -78,13 +77,13 @@ complete-found s n h = go (value_begun max_depth (front s) 0) refl h
           long = j;
         }
 
-    go : (x : Begun) → value_begun max_depth (front s) 0 ≡ x → within (length s) x ≡ Ends n → Complete s n
-    go (Ends e) k h = at e (same_end e n h) ((value-agree max_depth (front s) (front-small s) 0).0 e k)
-    go (Lacks j) k h = absurd (by_test (leb (length s + j) max_bytes) (λ t. lacks-no-end j n (rw t at h)) (λ t. never-no-end n (rw t at h)))
-    go Never k h = absurd (never-no-end n h)
+    go : (x : Result ℕ NotWhole) → value_begun max_depth (front s) 0 ≡ x → within (length s) x ≡ Ok n → Complete s n
+    go (Ok e) k h = at e (same_end e n h) ((value-agree max_depth (front s) (front-small s) 0).0 e k)
+    go (Err (Lacks j)) k h = absurd (by_test (leb (length s + j) max_bytes) (λ t. lacks-no-end j n (rw t at h)) (λ t. never-no-end n (rw t at h)))
+    go (Err Never) k h = absurd (never-no-end n h)
 
 -- the first n bytes are a value within the limits, exactly if the reader says so
-pub complete-law : (s : Bytes) (n : ℕ) → (first_value s ≡ Ends n) ↔ Complete s n
+pub complete-law : (s : Bytes) (n : ℕ) → (first_value s ≡ Ok n) ↔ Complete s n
 complete-law s n = (complete-found s n, found-complete s n)
 
 -- ---- lacking
@@ -103,23 +102,23 @@ begins-so s k f l =
     }
 
 -- bytes that lack k begin a value that has k more
-pub begins-found : (s : Bytes) (k : ℕ) → first_value s ≡ Lacks k → Begins s k
+pub begins-found : (s : Bytes) (k : ℕ) → first_value s ≡ Err (Lacks k) → Begins s k
 unfolding first_value
 begins-found s k h = go (value_begun max_depth (front s) 0) refl h
   where
-    at : (j : ℕ) → j ≡ k → length s + j ≤ max_bytes → value_begun max_depth (front s) 0 ≡ Lacks j → Begins s k
+    at : (j : ℕ) → j ≡ k → length s + j ≤ max_bytes → value_begun max_depth (front s) 0 ≡ Err (Lacks j) → Begins s k
     at j i l e =
         let b : front s ≡ s = take_all max_bytes s (omega arith) in
         subst (Begins s) i (begins-so s j
         (subst (λ (t : Bytes). Found max_depth t 0 j) b (value_found max_depth (front s) (front-small s) 0 j (omega arith) e)) l)
 
-    go : (x : Begun) → value_begun max_depth (front s) 0 ≡ x → within (length s) x ≡ Lacks k → Begins s k
-    go (Ends e) i h = absurd (ends-lacks e k h)
-    go (Lacks j) i h =
+    go : (x : Result ℕ NotWhole) → value_begun max_depth (front s) 0 ≡ x → within (length s) x ≡ Err (Lacks k) → Begins s k
+    go (Ok e) i h = absurd (ends-lacks e k h)
+    go (Err (Lacks j)) i h =
         by_test (leb (length s + j) max_bytes)
         (λ t. at j (lacks-same j k (rw t at h)) (leb-true (length s + j) max_bytes t) i)
         (λ t. absurd (never-lacks k (rw t at h)))
-    go Never i h = absurd (never-lacks k h)
+    go (Err Never) i h = absurd (never-lacks k h)
 
 -- bytes that are all of a value are complete
 all-complete : (s : Bytes) → Begins s 0 → Complete s (length s)
@@ -129,14 +128,14 @@ all-complete s b =
     record { v = b.v; within = b.within; rest = []; is = sym (append-nil (encode b.v) ∙ e); long = ap length e }
 
 -- what is lacking within the limit of bytes
-lacks-first : (s : Bytes) (j : ℕ) → Early (value_begun max_depth (front s) 0) j → length s + j ≤ max_bytes → (k : ℕ) × (first_value s ≡ Lacks k) × (k ≤ j)
+lacks-first : (s : Bytes) (j : ℕ) → Early (value_begun max_depth (front s) 0) j → length s + j ≤ max_bytes → (k : ℕ) × (first_value s ≡ Err (Lacks k)) × (k ≤ j)
 unfolding first_value
 lacks-first s j y l =
     let m = y.least in
     (y.k, ap (within (length s)) y.is ∙ rw (le-leb (length s + y.k) max_bytes (omega arith)), m)
 
 -- bytes that begin a value are found to lack no more than it has
-pub found-begins : (s : Bytes) (j : ℕ) → Begins s j → 0 < j → (k : ℕ) × (first_value s ≡ Lacks k) × (k ≤ j)
+pub found-begins : (s : Bytes) (j : ℕ) → Begins s j → 0 < j → (k : ℕ) × (first_value s ≡ Err (Lacks k)) × (k ≤ j)
 unfolding encode
 found-begins s j b o =
     let w = b.within in
@@ -151,7 +150,7 @@ found-begins s j b o =
     n
 
 -- so what is said to be lacking is the least that is
-pub least-law : (s : Bytes) (k : ℕ) → first_value s ≡ Lacks k → Begins s k × ((j : ℕ) → Begins s j → k ≤ j)
+pub least-law : (s : Bytes) (k : ℕ) → first_value s ≡ Err (Lacks k) → Begins s k × ((j : ℕ) → Begins s j → k ≤ j)
 least-law s k h = (begins-found s k h, λ j b. go j b)
   where
     go : (j : ℕ) → Begins s j → k ≤ j
@@ -166,13 +165,13 @@ least-law s k h = (begins-found s k h, λ j b. go j b)
         omega arith)
 
 -- bytes are lacking exactly if some value within the limits begins with these and none is complete
-pub more-law : (s : Bytes) → ((k : ℕ) × (first_value s ≡ Lacks k)) ↔ (((k : ℕ) × Begins s k) × NoneComplete s)
+pub more-law : (s : Bytes) → ((k : ℕ) × (first_value s ≡ Err (Lacks k))) ↔ (((k : ℕ) × Begins s k) × NoneComplete s)
 more-law s = (to, from)
   where
-    to : (k : ℕ) × (first_value s ≡ Lacks k) → ((k : ℕ) × Begins s k) × NoneComplete s
+    to : (k : ℕ) × (first_value s ≡ Err (Lacks k)) → ((k : ℕ) × Begins s k) × NoneComplete s
     to w = ((w.0, begins-found s w.0 w.1), λ n c. ends-lacks n w.0 (sym (found-complete s n c) ∙ w.1))
 
-    from : ((k : ℕ) × Begins s k) × NoneComplete s → (k : ℕ) × (first_value s ≡ Lacks k)
+    from : ((k : ℕ) × Begins s k) × NoneComplete s → (k : ℕ) × (first_value s ≡ Err (Lacks k))
     from w =
         let j = w.0.0 in
         by_test (eqb j 0)
@@ -182,10 +181,10 @@ more-law s = (to, from)
 -- ---- never
 
 -- neither is a value complete nor does one begin so, exactly if the reader says never
-pub never-law : (s : Bytes) → (first_value s ≡ Never) ↔ (NoneComplete s × NoneBegins s)
+pub never-law : (s : Bytes) → (first_value s ≡ Err Never) ↔ (NoneComplete s × NoneBegins s)
 never-law s = (to, λ w. from (first_value s) refl w)
   where
-    to : first_value s ≡ Never → NoneComplete s × NoneBegins s
+    to : first_value s ≡ Err Never → NoneComplete s × NoneBegins s
     to h = (none, λ k b. begins k b)
       where
         none : NoneComplete s
@@ -197,14 +196,14 @@ never-law s = (to, λ w. from (first_value s) refl w)
             (λ t. none (length s) (all-complete s (subst (Begins s) (eqb-true k 0 t) b)))
             (λ t. let z = eqb-false k 0 t in let f = found-begins s k b (omega arith) in never-lacks f.0 (sym h ∙ f.1))
 
-    from : (x : Begun) → first_value s ≡ x → NoneComplete s × NoneBegins s → first_value s ≡ Never
-    from (Ends n) e w = absurd (w.0 n (complete-found s n e))
-    from (Lacks k) e w = absurd (w.1 k (begins-found s k e))
-    from Never e w = e
+    from : (x : Result ℕ NotWhole) → first_value s ≡ x → NoneComplete s × NoneBegins s → first_value s ≡ Err Never
+    from (Ok n) e w = absurd (w.0 n (complete-found s n e))
+    from (Err (Lacks k)) e w = absurd (w.1 k (begins-found s k e))
+    from (Err Never) e w = e
 
 -- ---- what follows changes neither
 
-pub complete-stays : (s r : Bytes) (n : ℕ) → first_value s ≡ Ends n → first_value (s ++ r) ≡ Ends n
+pub complete-stays : (s r : Bytes) (n : ℕ) → first_value s ≡ Ok n → first_value (s ++ r) ≡ Ok n
 complete-stays s r n h =
     let c = complete-found s n h in
     found-complete (s ++ r) n
@@ -217,7 +216,7 @@ complete-stays s r n h =
       long = c.long;
     })
 
-pub never-stays : (s r : Bytes) → first_value s ≡ Never → first_value (s ++ r) ≡ Never
+pub never-stays : (s r : Bytes) → first_value s ≡ Err Never → first_value (s ++ r) ≡ Err Never
 never-stays s r h = (never-law (s ++ r)).1 (none, begins)
   where
     none : NoneComplete (s ++ r)

@@ -1,5 +1,5 @@
 -- Values that hold others, made of a row of values: arrays, sets, pushes, maps and attributes. Assumes nothing.
-use Rattle.std.specs.Prelude.{◌≡◌, refl, [], ◌∷◌, ℕ, zero, suc, ◌+◌, ◌*◌, ◌≤◌, leb, eqb, length}
+use Rattle.std.specs.Prelude.{◌≡◌, refl, [], ◌∷◌, ℕ, zero, suc, ◌+◌, ◌*◌, ◌≤◌, leb, eqb, length, Err}
 use Rattle.std.proofs.Common.{sym, ap, ap₂, ◌∙◌, subst, arith, eqb-true}
 use Rattle.std.proofs.lemmas.Bool.{eqb-false}
 use Rattle.buffer.specs.Cases.{by_test}
@@ -11,7 +11,7 @@ use Rattle.resp3.specs.Kinds.{byte_of}
 use Rattle.resp3.specs.Value.{Value, Values, null, array, map, set, attribute, push, none, more, count, count_pairs, below, deepest, deepest_pairs}
 use Rattle.resp3.specs.Value.{Valid, Valids, ValidPairs, counted, enc, encs, enc_pairs}
 use Rattle.resp3.specs.Rows.{flat, flat-enc, valid-flat, deep-flat, head_of, pair_up, skip, paired, row-none, row_one}
-use Rattle.resp3_prefix.specs.declared.Begun.TheVariants.{Lacks}
+use Rattle.resp3_prefix.specs.declared.NotWhole.TheVariants.{Lacks}
 use Rattle.resp3_prefix.specs.Begun.{lacking, lacking_row, lacking_below}
 use Rattle.resp3_prefix.specs.Found.{lacks-same, never-lacks}
 
@@ -105,11 +105,11 @@ nulls-long (suc n) = let k = nulls-long n in omega arith
 
 -- ---- what is lacking before a row, in bytes
 
-lacking-says : (x k : ℕ) → lacking x ≡ Lacks k → x ≡ k
+lacking-says : (x k : ℕ) → lacking x ≡ Err (Lacks k) → x ≡ k
 unfolding lacking
 lacking-says x k h = by_test (leb x max_bytes) (λ t. lacks-same x k (rw t at h)) (λ t. absurd (never-lacks k (rw t at h)))
 
-pub row-says : (x n k : ℕ) → lacking_row x n ≡ Lacks k → x + 3 * n ≡ k
+pub row-says : (x n k : ℕ) → lacking_row x n ≡ Err (Lacks k) → x + 3 * n ≡ k
 unfolding lacking_row
 row-says x n k h =
     by_test (leb x max_bytes)
@@ -117,7 +117,7 @@ row-says x n k h =
     (λ t. absurd (never-lacks k (rw t at h)))
 
 -- behind a count: as many bytes, and nulls that are not too deep
-pub below-says : (d x n k : ℕ) → lacking_below d x n ≡ Lacks k → (x + 3 * n ≡ k) × (deepest (nulls n) ≤ d)
+pub below-says : (d x n k : ℕ) → lacking_below d x n ≡ Err (Lacks k) → (x + 3 * n ≡ k) × (deepest (nulls n) ≤ d)
 unfolding lacking_below
 below-says d x n k h =
     by_test (eqb n 0)

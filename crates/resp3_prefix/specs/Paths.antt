@@ -1,7 +1,7 @@
 -- One equation for each way through the reader's code, by which the proofs of its functions go. Assumes nothing.
 -- (Where a definition changes, a worked case is to say so first: this file cites one.)
-use Rattle.std.specs.Prelude.{◌≡◌, refl, true, false, ℕ, zero, suc, ◌+◌, ◌*◌, ◌-◌, ◌≤◌, ◌<◌, min, leb, eqb, length, get_or, take, drop}
-use Rattle.std.proofs.Common.{sym, ap, ◌∙◌, arith, length-take, take_all}
+use Rattle.std.specs.Prelude.{◌≡◌, refl, ◌⊎◌, true, false, ℕ, zero, suc, ◌+◌, ◌*◌, ◌-◌, ◌≤◌, ◌<◌, min, leb, eqb, length, get_or, take, drop, Result, Ok, Err}
+use Rattle.std.proofs.Common.{inl, inr, sym, ap, ◌∙◌, arith, length-take, take_all}
 use borrow.Author.Tests.{leb-true, leb-false, le-leb, lt-leb, ne_eqb}
 use Rattle.buffer.specs.Cases.{by_test}
 use Rattle.buffer.specs.Same.{Bytes}
@@ -11,12 +11,10 @@ use Rattle.decimal.specs.Read.{lead, val_acc}
 use Rattle.resp3.specs.Ends.{plain, null_word_b}
 use Rattle.resp3.specs.Kinds.{kind_of}
 use Rattle.resp3.specs.declared.Kind.{Kind}
-use Rattle.resp3_prefix.specs.declared.Begun.{Begun}
-use Rattle.resp3_prefix.specs.declared.Begun.TheVariants.{Ends, Lacks, Never}
+use Rattle.resp3_prefix.specs.declared.NotWhole.{NotWhole}
+use Rattle.resp3_prefix.specs.declared.NotWhole.TheVariants.{Lacks, Never}
 use Rattle.resp3_prefix.specs.declared.Count.{Count}
 use Rattle.resp3_prefix.specs.declared.Count.TheVariants.{Whole, Nothing, Digits, Ended, Never as NoCount}
-use Rattle.resp3_prefix.specs.declared.Opened.{Opened}
-use Rattle.resp3_prefix.specs.declared.Opened.TheVariants.{Lacks as LacksHead}
 use Rattle.resp3_prefix.specs.Begun.{lacking, lacking_row, lacking_below, crlf_begun, count_end, count_begun, line_begun, blob_of, blob_begun}
 use Rattle.resp3_prefix.specs.Begun.{one_begun, alone_of, kind_begun}
 use Rattle.resp3_prefix.specs.Begun.{verbatim_body, verbatim_digits, verbatim_of, verbatim_begun, digits_of, minus_of, integer_begun, boolean_begun}
@@ -24,19 +22,19 @@ use Rattle.resp3_prefix.specs.Begun.{body_begun, head_begun, head_then, begun_th
 
 -- ---- sizes
 
-pub lacking-yes : (k : ℕ) → k ≤ max_bytes → lacking k ≡ Lacks k
+pub lacking-yes : (k : ℕ) → k ≤ max_bytes → lacking k ≡ Err (Lacks k)
 unfolding lacking
 lacking-yes k l = rw (le-leb k max_bytes l)
 
-pub lacking-no : (k : ℕ) → max_bytes < k → lacking k ≡ Never
+pub lacking-no : (k : ℕ) → max_bytes < k → lacking k ≡ Err Never
 unfolding lacking
 lacking-no k l = rw (lt-leb k max_bytes l)
 
-pub row-far : (k n : ℕ) → max_bytes < k → lacking_row k n ≡ Never
+pub row-far : (k n : ℕ) → max_bytes < k → lacking_row k n ≡ Err Never
 unfolding lacking_row
 row-far k n l = rw (lt-leb k max_bytes l)
 
-pub row-many : (k n : ℕ) → k ≤ max_bytes → max_bytes < n → lacking_row k n ≡ Never
+pub row-many : (k n : ℕ) → k ≤ max_bytes → max_bytes < n → lacking_row k n ≡ Err Never
 unfolding lacking_row
 row-many k n l m = rw (le-leb k max_bytes l, lt-leb n max_bytes m)
 
@@ -44,11 +42,11 @@ pub row-sum : (k n : ℕ) → k ≤ max_bytes → n ≤ max_bytes → lacking_ro
 unfolding lacking_row
 row-sum k n l m = rw (le-leb k max_bytes l, le-leb n max_bytes m)
 
-pub below_none : (d k n : ℕ) → n ≡ 0 → lacking_below d k n ≡ Lacks k
+pub below_none : (d k n : ℕ) → n ≡ 0 → lacking_below d k n ≡ Err (Lacks k)
 unfolding lacking_below
 below_none d k n e = rw e
 
-pub below-deep : (d k n : ℕ) → ((n ≡ 0) → ⊥) → d ≡ 0 → lacking_below d k n ≡ Never
+pub below-deep : (d k n : ℕ) → ((n ≡ 0) → ⊥) → d ≡ 0 → lacking_below d k n ≡ Err Never
 unfolding lacking_below
 below-deep d k n m e = rw (ne_eqb n 0 m, e)
 
@@ -66,23 +64,23 @@ product (suc (suc (suc a))) n m l h = absurd (omega arith)
 -- ---- CR LF
 
 module _ (s : Bytes) (i : ℕ) where
-  pub crlf-out : length s ≤ i → crlf_begun s i ≡ Lacks (i + 2 - length s)
+  pub crlf-out : length s ≤ i → crlf_begun s i ≡ Err (Lacks (i + 2 - length s))
   unfolding crlf_begun
   crlf-out l = rw (le-leb (length s) i l)
 
-  pub crlf-not : i < length s → ((get_or s i 0 ≡ 13) → ⊥) → crlf_begun s i ≡ Never
+  pub crlf-not : i < length s → ((get_or s i 0 ≡ 13) → ⊥) → crlf_begun s i ≡ Err Never
   unfolding crlf_begun
   crlf-not l c = rw (lt-leb (length s) i l, ne_eqb (get_or s i 0) 13 c)
 
-  pub crlf-cr : i < length s → get_or s i 0 ≡ 13 → length s ≤ i + 1 → crlf_begun s i ≡ Lacks 1
+  pub crlf-cr : i < length s → get_or s i 0 ≡ 13 → length s ≤ i + 1 → crlf_begun s i ≡ Err (Lacks 1)
   unfolding crlf_begun
   crlf-cr l c m = rw (lt-leb (length s) i l, c, le-leb (length s) (i + 1) m)
 
-  pub crlf-both : i < length s → get_or s i 0 ≡ 13 → i + 1 < length s → get_or s (i + 1) 0 ≡ 10 → crlf_begun s i ≡ Ends (i + 2)
+  pub crlf-both : i < length s → get_or s i 0 ≡ 13 → i + 1 < length s → get_or s (i + 1) 0 ≡ 10 → crlf_begun s i ≡ Ok (i + 2)
   unfolding crlf_begun
   crlf-both l c m f = rw (lt-leb (length s) i l, c, lt-leb (length s) (i + 1) m, f)
 
-  pub crlf-odd : i < length s → get_or s i 0 ≡ 13 → i + 1 < length s → ((get_or s (i + 1) 0 ≡ 10) → ⊥) → crlf_begun s i ≡ Never
+  pub crlf-odd : i < length s → get_or s i 0 ≡ 13 → i + 1 < length s → ((get_or s (i + 1) 0 ≡ 10) → ⊥) → crlf_begun s i ≡ Err Never
   unfolding crlf_begun
   crlf-odd l c m f = rw (lt-leb (length s) i l, c, lt-leb (length s) (i + 1) m, ne_eqb (get_or s (i + 1) 0) 10 f)
 
@@ -149,7 +147,7 @@ unfolding verbatim_begun
 verbatim-is s at c e = rw e
 
 module _ (s : Bytes) (n e : ℕ) where
-  pub body-few : n < 4 → verbatim_body s n e ≡ Never
+  pub body-few : n < 4 → verbatim_body s n e ≡ Err Never
   unfolding verbatim_body
   body-few l = rw (lt-leb 4 n l)
 
@@ -161,35 +159,35 @@ module _ (s : Bytes) (n e : ℕ) where
   unfolding verbatim_body
   body-colon l m c = rw (le-leb 4 n l, lt-leb (length s) (e + 3) m, c)
 
-  pub body-no-colon : 4 ≤ n → e + 3 < length s → ((get_or s (e + 3) 0 ≡ 58) → ⊥) → verbatim_body s n e ≡ Never
+  pub body-no-colon : 4 ≤ n → e + 3 < length s → ((get_or s (e + 3) 0 ≡ 58) → ⊥) → verbatim_body s n e ≡ Err Never
   unfolding verbatim_body
   body-no-colon l m c = rw (le-leb 4 n l, lt-leb (length s) (e + 3) m, ne_eqb (get_or s (e + 3) 0) 58 c)
 
-pub digits-four : (m : ℕ) → 4 ≤ m → verbatim_digits m ≡ Lacks (m + 4)
+pub digits-four : (m : ℕ) → 4 ≤ m → verbatim_digits m ≡ Err (Lacks (m + 4))
 unfolding verbatim_digits
 digits-four m l = rw (le-leb 4 m l)
 
-pub digits-zero : (m : ℕ) → m ≡ 0 → verbatim_digits m ≡ Never
+pub digits-zero : (m : ℕ) → m ≡ 0 → verbatim_digits m ≡ Err Never
 unfolding verbatim_digits
 digits-zero m e = rw e
 
-pub digits-few : (m : ℕ) → m < 4 → ((m ≡ 0) → ⊥) → verbatim_digits m ≡ Lacks (10 * m + 5)
+pub digits-few : (m : ℕ) → m < 4 → ((m ≡ 0) → ⊥) → verbatim_digits m ≡ Err (Lacks (10 * m + 5))
 unfolding verbatim_digits
 digits-few m l e = rw (lt-leb 4 m l, ne_eqb m 0 e)
 
-pub ended-four : (s : Bytes) (m : ℕ) → 4 ≤ m → verbatim_of s (Ended m) ≡ Lacks (m + 3)
+pub ended-four : (s : Bytes) (m : ℕ) → 4 ≤ m → verbatim_of s (Ended m) ≡ Err (Lacks (m + 3))
 ended-four s m l = rw (le-leb 4 m l)
 
-pub ended-few : (s : Bytes) (m : ℕ) → m < 4 → verbatim_of s (Ended m) ≡ Never
+pub ended-few : (s : Bytes) (m : ℕ) → m < 4 → verbatim_of s (Ended m) ≡ Err Never
 ended-few s m l = rw (lt-leb 4 m l)
 
-pub minus-whole : (n e : ℕ) → ((n ≡ 0) → ⊥) → minus_of (Whole n e) ≡ Ends e
+pub minus-whole : (n e : ℕ) → ((n ≡ 0) → ⊥) → minus_of (Whole n e) ≡ Ok e
 minus-whole n e h = rw (ne_eqb n 0 h)
 
-pub minus-digits : (m : ℕ) → ((m ≡ 0) → ⊥) → minus_of (Digits m) ≡ Lacks 2
+pub minus-digits : (m : ℕ) → ((m ≡ 0) → ⊥) → minus_of (Digits m) ≡ Err (Lacks 2)
 minus-digits m h = rw (ne_eqb m 0 h)
 
-pub minus-ended : (m : ℕ) → ((m ≡ 0) → ⊥) → minus_of (Ended m) ≡ Lacks 1
+pub minus-ended : (m : ℕ) → ((m ≡ 0) → ⊥) → minus_of (Ended m) ≡ Err (Lacks 1)
 minus-ended m h = rw (ne_eqb m 0 h)
 
 module _ (s : Bytes) (at : ℕ) where
@@ -202,11 +200,11 @@ module _ (s : Bytes) (at : ℕ) where
   integer-plain c h e = rw (ne_eqb (get_or s at 0) 45 h, e)
 
   -- past the end no minus stands
-  pub integer-out : length s ≤ at → integer_begun s at ≡ Lacks 3
+  pub integer-out : length s ≤ at → integer_begun s at ≡ Err (Lacks 3)
   unfolding integer_begun count_begun
   integer-out l = rw (get_or-out s at l, le-leb (length s) at l)
 
-  pub bool-out : length s ≤ at → boolean_begun s at ≡ Lacks 3
+  pub bool-out : length s ≤ at → boolean_begun s at ≡ Err (Lacks 3)
   unfolding boolean_begun
   bool-out l = rw (le-leb (length s) at l)
 
@@ -218,14 +216,18 @@ module _ (s : Bytes) (at : ℕ) where
   unfolding boolean_begun
   bool-f l h = rw (lt-leb (length s) at l, h)
 
-  pub bool-else : at < length s → ((get_or s at 0 ≡ 116) → ⊥) → ((get_or s at 0 ≡ 102) → ⊥) → boolean_begun s at ≡ Never
+  pub bool-is : at < length s → (get_or s at 0 ≡ 102) ⊎ (get_or s at 0 ≡ 116) → boolean_begun s at ≡ crlf_begun s (at + 1)
+  bool-is l (inl h) = bool-f l h
+  bool-is l (inr h) = bool-t l h
+
+  pub bool-else : at < length s → ((get_or s at 0 ≡ 116) → ⊥) → ((get_or s at 0 ≡ 102) → ⊥) → boolean_begun s at ≡ Err Never
   unfolding boolean_begun
   bool-else l h g = rw (lt-leb (length s) at l, ne_eqb (get_or s at 0) 116 h, ne_eqb (get_or s at 0) 102 g)
 
 -- ---- values with others inside
 
 module _ (d : ℕ) (s : Bytes) (at : ℕ) where
-  pub kind-out : length s ≤ at → kind_begun d s at ≡ LacksHead 3
+  pub kind-out : length s ≤ at → kind_begun d s at ≡ Err (Lacks 3)
   unfolding kind_begun
   kind-out l = rw (le-leb (length s) at l)
 
@@ -242,35 +244,36 @@ module _ (d : ℕ) (s : Bytes) (at : ℕ) where
   head-kind w = rw w
 
 module _ (d : ℕ) (s : Bytes) where
-  pub value-zero : (at : ℕ) → d ≡ 0 → value_begun d s at ≡ Never
+  pub value-zero : (at : ℕ) → d ≡ 0 → value_begun d s at ≡ Err Never
   unfolding value_begun
   value-zero at h = rw h
 
-  pub row-none : (n at : ℕ) → n ≡ 0 → row_begun d s n at ≡ Ends at
+  pub row-none : (n at : ℕ) → n ≡ 0 → row_begun d s n at ≡ Ok at
   unfolding row_begun iter
   row-none n at h = rw h
 
-pub value-head : (d : ℕ) (s : Bytes) (at : ℕ) (x : Opened) → ((d ≡ 0) → ⊥) → head_begun (d - 1) s at ≡ x
+pub value-head : (d : ℕ) (s : Bytes) (at : ℕ) (x : Result (ℕ × ℕ) NotWhole) → ((d ≡ 0) → ⊥) → head_begun (d - 1) s at ≡ x
     → value_begun d s at ≡ head_then x (λ n e. row_begun (d - 1) s n e)
 unfolding value_begun row_begun
 value-head zero s at x z h = absurd (z refl)
 value-head (suc d) s at x z h = let j : suc d - 1 ≡ d = omega arith in rw j (let k : head_begun d s at ≡ x = rw j at h in rw k)
 
 -- one value of a row
-pub row_one : (d : ℕ) (s : Bytes) (n at : ℕ) (x : Begun) → 0 < n → value_begun d s at ≡ x → row_begun d s n at ≡ begun_then x (n - 1) (λ e. row_begun d s (n - 1) e)
+pub row_one : (d : ℕ) (s : Bytes) (n at : ℕ) (x : Result ℕ NotWhole) → 0 < n → value_begun d s at ≡ x
+    → row_begun d s n at ≡ begun_then x (n - 1) (λ e. row_begun d s (n - 1) e)
 unfolding row_begun iter
 row_one d s zero at x l h = absurd (omega arith)
 row_one d s (suc n) at x l h = let j : suc n - 1 ≡ n = omega arith in rw (j, h)
 
 -- ---- the verdict
 
-pub within-far : (n k : ℕ) → max_bytes < k → within n (Lacks k) ≡ Never
+pub within-far : (n k : ℕ) → max_bytes < k → within n (Err (Lacks k)) ≡ Err Never
 within-far n k l = rw (lt-leb (n + k) max_bytes (omega arith))
 
-pub within-yes : (n k : ℕ) → k ≤ max_bytes → n ≤ max_bytes - k → within n (Lacks k) ≡ Lacks k
+pub within-yes : (n k : ℕ) → k ≤ max_bytes → n ≤ max_bytes - k → within n (Err (Lacks k)) ≡ Err (Lacks k)
 within-yes n k l m = rw (le-leb (n + k) max_bytes (omega arith))
 
-pub within-no : (n k : ℕ) → k ≤ max_bytes → max_bytes - k < n → within n (Lacks k) ≡ Never
+pub within-no : (n k : ℕ) → k ≤ max_bytes → max_bytes - k < n → within n (Err (Lacks k)) ≡ Err Never
 within-no n k l m = rw (lt-leb (n + k) max_bytes (omega arith))
 
 -- a value needs no more than so many of the bytes
@@ -280,7 +283,8 @@ take-most s n m e =
     (λ t. let l = leb-true (length s) m t in take_all n s (omega arith) ∙ sym (take_all m s l))
     (λ t. let l = leb-false (length s) m t in let k : n ≡ m = omega arith in ap (λ (i : ℕ). take i s) k)
 
-pub first-is : (s : Bytes) (n : ℕ) (x : Begun) → n ≡ min (length s) max_bytes → x ≡ value_begun max_depth (take n s) 0 → within (length s) x ≡ first_value s
+pub first-is : (s : Bytes) (n : ℕ) (x : Result ℕ NotWhole) → n ≡ min (length s) max_bytes → x ≡ value_begun max_depth (take n s) 0
+    → within (length s) x ≡ first_value s
 unfolding first_value
 first-is s n x e h = ap (within (length s)) (h ∙ ap (λ (t : Bytes). value_begun max_depth t 0) (take-most s n max_bytes e))
 

@@ -1,5 +1,6 @@
 -- Bytes and CR LF behind them, and lines, of which a beginning stands in the bytes. Assumes nothing.
-use Rattle.std.specs.Prelude.{◌≡◌, refl, Bool, true, false, [], ◌∷◌, ◌++◌, ℕ, suc, ◌+◌, ◌-◌, ◌≤◌, ◌<◌, leb, eqb, length, get_or, take, drop, replicate}
+use Rattle.std.specs.Prelude.{◌≡◌, refl, Bool, true, false, [], ◌∷◌, ◌++◌, ℕ, suc, ◌+◌, ◌-◌, ◌≤◌, ◌<◌, leb, eqb, length, get_or, take, drop}
+use Rattle.std.specs.Prelude.{replicate, Result, Ok, Err}
 use Rattle.std.proofs.Common.{sym, ap, ◌∙◌, append_assoc, arith, length-append, length-drop, take-append-drop, drop-drop, length-take-le, leb-true, leb-false, eqb-true}
 use Rattle.std.proofs.lemmas.List.{length-replicate}
 use Rattle.buffer.specs.Cases.{by_test}
@@ -7,25 +8,25 @@ use Rattle.buffer.specs.Same.{Bytes}
 use Rattle.buffer.specs.Places.{first, after, step}
 use Rattle.resp3.specs.Value.{crlf, plain_b, one_line}
 use Rattle.resp3.specs.Ends.{plain}
-use Rattle.resp3_prefix.specs.declared.Begun.{Begun}
-use Rattle.resp3_prefix.specs.declared.Begun.TheVariants.{Ends, Lacks, Never}
+use Rattle.resp3_prefix.specs.declared.NotWhole.{NotWhole}
+use Rattle.resp3_prefix.specs.declared.NotWhole.TheVariants.{Lacks, Never}
 use Rattle.resp3_prefix.specs.Begun.{crlf_begun}
 use Rattle.resp3_prefix.specs.Paths as paths
 use Rattle.resp3_prefix.specs.Split.{cut, none_left}
 
 -- x says that bytes are lacking, no more than n
-pub record Early (x : Begun) (n : ℕ) : Type 0 where
+pub record Early (x : Result ℕ NotWhole) (n : ℕ) : Type 0 where
   pub k : ℕ
-  pub is : x ≡ Lacks k
+  pub is : x ≡ Err (Lacks k)
   pub least : k ≤ n
 
-pub lacks : {x : Begun} {n : ℕ} (k : ℕ) → x ≡ Lacks k → k ≤ n → Early x n
+pub lacks : {x : Result ℕ NotWhole} {n : ℕ} (k : ℕ) → x ≡ Err (Lacks k) → k ≤ n → Early x n
 lacks k e l = record { k = k; is = e; least = l }
 
 -- ---- what each answer on CR LF says
 
 -- CR and then the end
-crlf-cr : (s : Bytes) (i : ℕ) → drop i s ≡ 13 ∷ [] → crlf_begun s i ≡ Lacks 1
+crlf-cr : (s : Bytes) (i : ℕ) → drop i s ≡ 13 ∷ [] → crlf_begun s i ≡ Err (Lacks 1)
 crlf-cr s i e =
     let n : length s ≡ i + 1 = omega (arith, ap length e, length-drop i s) in
     paths.crlf-cr s i (omega arith) (first s i 13 [] e) (omega arith)
@@ -37,28 +38,28 @@ cr-only (x ∷ []) q e h g = let k : x ≡ 13 = cc in ap (λ (y : ℕ). y ∷ []
 cr-only (x ∷ y ∷ m) q e h g = absurd (omega (arith, ap length e, length-append (x ∷ y ∷ m) q))
 
 -- by the answer that bytes are lacking
-pub crlf-lacks : {X : Type 0} (s : Bytes) (i k : ℕ) → crlf_begun s i ≡ Lacks k
+pub crlf-lacks : {X : Type 0} (s : Bytes) (i k : ℕ) → crlf_begun s i ≡ Err (Lacks k)
     → (length s ≤ i → i + 2 - length s ≡ k → X) → (length s ≡ i + 1 → drop i s ≡ 13 ∷ [] → 1 ≡ k → X) → X
 unfolding crlf_begun
 crlf-lacks s i k e f g =
     by_test (leb (length s) i)
-    (λ t. let h : Lacks (i + 2 - length s) ≡ Lacks k = rw t at e in f (leb-true (length s) i t) cc)
+    (λ t. let h : ◌≡◌ {A = Result ℕ NotWhole} (Err (Lacks (i + 2 - length s))) (Err (Lacks k)) = rw t at e in f (leb-true (length s) i t) cc)
     (λ t.
     let o = leb-false (length s) i t in
     by_test (eqb (get_or s i 0) 13)
     (λ c.
     by_test (leb (length s) (i + 1))
     (λ u.
-    let h : Lacks 1 ≡ Lacks k = rw (t, c, u) at e in
+    let h : ◌≡◌ {A = Result ℕ NotWhole} (Err (Lacks 1)) (Err (Lacks k)) = rw (t, c, u) at e in
     let m = leb-true (length s) (i + 1) u in
     let n : length s ≡ i + 1 = omega arith in
     let d : drop (i + 1) s ≡ [] = let z = length-drop (i + 1) s in none_left (drop (i + 1) s) (omega arith) in
     g n (step s i o ∙ rw (eqb-true (get_or s i 0) 13 c, d)) cc)
     (λ u.
     by_test (eqb (get_or s (i + 1) 0) 10)
-    (λ y. absurd (let h : Ends (i + 2) ≡ Lacks k = rw (t, c, u, y) at e in let z : ◌≡◌ {A = ℕ} 0 1 = cc in omega arith))
-    (λ y. absurd (let h : Never ≡ Lacks k = rw (t, c, u, y) at e in let z : ◌≡◌ {A = ℕ} 0 1 = cc in omega arith))))
-    (λ c. absurd (let h : Never ≡ Lacks k = rw (t, c) at e in let z : ◌≡◌ {A = ℕ} 0 1 = cc in omega arith)))
+    (λ y. absurd (let h : ◌≡◌ {A = Result ℕ NotWhole} (Ok (i + 2)) (Err (Lacks k)) = rw (t, c, u, y) at e in let z : ◌≡◌ {A = ℕ} 0 1 = cc in omega arith))
+    (λ y. absurd (let h : ◌≡◌ {A = Result ℕ NotWhole} (Err Never) (Err (Lacks k)) = rw (t, c, u, y) at e in let z : ◌≡◌ {A = ℕ} 0 1 = cc in omega arith))))
+    (λ c. absurd (let h : ◌≡◌ {A = Result ℕ NotWhole} (Err Never) (Err (Lacks k)) = rw (t, c) at e in let z : ◌≡◌ {A = ℕ} 0 1 = cc in omega arith)))
 
 -- ---- so many bytes, and CR LF
 
@@ -87,7 +88,7 @@ pub record Frame (s : Bytes) (p i k : ℕ) : Type 0 where
   pub long : length q ≡ k
 
 -- bytes that lack k are completed by k
-pub frame_found : (s : Bytes) (p i k : ℕ) → p ≤ length s → p ≤ i → crlf_begun s i ≡ Lacks k → Frame s p i k
+pub frame_found : (s : Bytes) (p i k : ℕ) → p ≤ length s → p ≤ i → crlf_begun s i ≡ Err (Lacks k) → Frame s p i k
 frame_found s p i k l o e =
     let t : Bytes = drop p s in
     let b = length-drop p s in

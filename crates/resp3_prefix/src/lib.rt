@@ -3,28 +3,29 @@
 // asks again from the value's start, and the passes over a value that comes in pieces are as many as the pieces.
 #![tactic(auto)]
 
-ghost use Rattle.std.specs.Prelude.{◌≡◌, ◌+◌, ◌≤◌, min, length, get_or};
+ghost use Rattle.std.specs.Prelude.{◌≡◌, ◌+◌, ◌≤◌, min, length};
 ghost use Rattle.config.specs.Limits.{max_bytes};
-ghost use Rattle.decimal.specs.Read.{digit_b};
-ghost use Rattle.resp3.specs.Value.{plain_b};
 ghost use Rattle.resp3_prefix.specs.Begun.{lacking, lacking_row, lacking_below, crlf_begun, count_end, count_begun, line_begun, blob_begun};
 ghost use Rattle.resp3_prefix.specs.Begun.{string_begun, one_begun, verbatim_body, verbatim_digits, verbatim_begun, digits_of, minus_of};
 ghost use Rattle.resp3_prefix.specs.Begun.{integer_begun, boolean_begun, alone_of, row_of, kind_begun, null_begun, head_begun, value_begun, within, first_value};
 
 use resp3::Kind;
 
-// How far a value stands in the bytes.
-#[derive(Drop)]
-pub enum Begun {
-    // It ends there: the place after its last byte.
-    Ends(usize),
+// Why no whole value stands there.
+// Kept: it is the error of a Result itself; C is told the two apart by its verdicts.
+#[derive(Clone, Copy, PartialEq, Eq, Debug)]
+pub enum NotWhole {
     // The bytes end inside it, and at least so many are lacking.
     Lacks(usize),
     // No value begins so.
     Never,
 }
 
+// Where a value stands whole, its end is answered: the place after its last byte. Of its beginning alone, how many values are inside it, and where the first
+// of them stands (or, with none, where it ends).
+
 // How far a number and its CR LF stand in the bytes.
+// Kept: five cases, two of which say how far the digits stand: neither Option nor Result has them.
 #[derive(Drop)]
 enum Count {
     // The number, and the place after its LF.
@@ -39,73 +40,62 @@ enum Count {
     Never,
 }
 
-// The beginning of a value.
-#[derive(Drop)]
-enum Opened {
-    // So many values are inside it, and the first of them stands there (or, with none, it ends there).
-    Of(u64, usize),
-    // The bytes end inside the beginning, and at least so many are lacking.
-    Lacks(usize),
-    // No value begins so.
-    Never,
-}
-
 // So many bytes are lacking.
-fn lacking(k: usize) -> Begun
+fn lacking(k: usize) -> Result<usize, NotWhole>
     ensures { result ≡ lacking k }
 {
     if k <= config::MAX_BYTES {
-        Begun::Lacks(k)
+        Err(NotWhole::Lacks(k))
     } else {
-        Begun::Never
+        Err(NotWhole::Never)
     }
 }
 
 // So many bytes, and n values behind them.
-fn lacking_row(k: usize, n: u64) -> Begun
+fn lacking_row(k: usize, n: u64) -> Result<usize, NotWhole>
     ensures { result ≡ lacking_row k n }
 {
     if k > config::MAX_BYTES {
-        return Begun::Never;
+        return Err(NotWhole::Never);
     }
     if n > config::MAX_BYTES as u64 {
-        return Begun::Never;
+        return Err(NotWhole::Never);
     }
     lacking(k + 3 * n as usize)
 }
 
 // The same before values that nest at most depth deep.
-fn lacking_below(depth: usize, k: usize, n: u64) -> Begun
+fn lacking_below(depth: usize, k: usize, n: u64) -> Result<usize, NotWhole>
     ensures { result ≡ lacking_below depth k n }
 {
     if n == 0 {
-        return Begun::Lacks(k);
+        return Err(NotWhole::Lacks(k));
     }
     if depth == 0 {
-        return Begun::Never;
+        return Err(NotWhole::Never);
     }
     lacking_row(k, n)
 }
 
 // CR LF.
-fn crlf_begun(s: &[u8], i: usize) -> Begun
+fn crlf_begun(s: &[u8], i: usize) -> Result<usize, NotWhole>
     requires { (length s.now ≤ max_bytes) × (i ≤ max_bytes + max_bytes) }
     ensures { result ≡ crlf_begun s.now i }
 {
     let n = s.len();
     if n <= i {
-        return Begun::Lacks(i + 2 - n);
+        return Err(NotWhole::Lacks(i + 2 - n));
     }
     if s[i] != 13 {
-        return Begun::Never;
+        return Err(NotWhole::Never);
     }
     if n <= i + 1 {
-        return Begun::Lacks(1);
+        return Err(NotWhole::Lacks(1));
     }
     if s[i + 1] == 10 {
-        Begun::Ends(i + 2)
+        Ok(i + 2)
     } else {
-        Begun::Never
+        Err(NotWhole::Never)
     }
 }
 
@@ -131,27 +121,6 @@ fn count_end(s: &[u8], i: usize, v: u64) -> Count
     }
 }
 
-fn wide(x: u8) -> u64
-    ensures { result ≡ x }
-{
-    x as u64
-}
-
-// Whether a digit stands at i.
-fn digit_at(s: &[u8], i: usize) -> bool
-    ensures { result ≡ digit_b (get_or s.now i 0) }
-{
-    if i < s.len() {
-        let d = s[i];
-        if d < 48 {
-            return false;
-        }
-        d <= 57
-    } else {
-        false
-    }
-}
-
 // A number of at most lim: no plus sign, no leading zero, CR LF behind it.
 fn count_begun(s: &[u8], at: usize, lim: u64) -> Count
     requires { length s.now ≤ max_bytes }
@@ -160,190 +129,155 @@ fn count_begun(s: &[u8], at: usize, lim: u64) -> Count
     if at >= s.len() {
         return Count::Nothing;
     }
-    if s[at] == 48 {
-        return count_end(s, at + 1, 0);
+    match decimal::digits_at(s, at, lim) {
+        Some((v, e)) => count_end(s, e, v),
+        None => Count::Never,
     }
-    let tenth = lim / 10;
-    let mut i = at;
-    let mut v: u64 = 0;
-    while digit_at(s, i) {
-        if v > tenth {
-            return Count::Never;
-        }
-        let digit = wide(s[i]) - 48;
-        if digit > lim - v * 10 {
-            return Count::Never;
-        }
-        v = v * 10 + digit;
-        i += 1;
-    }
-    if i == at {
-        return Count::Never;
-    }
-    count_end(s, i, v)
-}
-
-// Whether a byte stands at i that is neither CR nor LF.
-fn plain_at(s: &[u8], i: usize) -> bool
-    ensures { result ≡ plain_b (get_or s.now i 13) }
-{
-    if i >= s.len() {
-        return false;
-    }
-    let b = s[i];
-    if b == 13 {
-        return false;
-    }
-    b != 10
 }
 
 // A line.
-fn line_begun(s: &[u8], at: usize) -> Begun
+fn line_begun(s: &[u8], at: usize) -> Result<usize, NotWhole>
     requires { (length s.now ≤ max_bytes) × (at ≤ length s.now) }
     ensures { result ≡ line_begun s.now at }
 {
-    let mut i = at;
-    while plain_at(s, i) {
-        i += 1;
-    }
-    crlf_begun(s, i)
+    crlf_begun(s, resp3::plain_end(s, at))
 }
 
 // A length, as many bytes, CR LF.
-fn blob_begun(s: &[u8], at: usize) -> Begun
+fn blob_begun(s: &[u8], at: usize) -> Result<usize, NotWhole>
     requires { length s.now ≤ max_bytes }
     ensures { result ≡ blob_begun s.now at }
 {
     match count_begun(s, at, config::MAX_BYTES as u64) {
         Count::Whole(n, e) => crlf_begun(s, e + n as usize),
-        Count::Nothing => Begun::Lacks(5),
-        Count::Digits(m) => Begun::Lacks(m as usize + 4),
-        Count::Ended(m) => Begun::Lacks(m as usize + 3),
-        Count::Never => Begun::Never,
+        Count::Nothing => Err(NotWhole::Lacks(5)),
+        Count::Digits(m) => Err(NotWhole::Lacks(m as usize + 4)),
+        Count::Ended(m) => Err(NotWhole::Lacks(m as usize + 3)),
+        Count::Never => Err(NotWhole::Never),
     }
 }
 
 // The same behind `$`: where its length has not begun, RESP2's null is the shortest.
-fn string_begun(s: &[u8], at: usize) -> Begun
+fn string_begun(s: &[u8], at: usize) -> Result<usize, NotWhole>
     requires { length s.now ≤ max_bytes }
     ensures { result ≡ string_begun s.now at }
 {
     if at >= s.len() {
-        return Begun::Lacks(4);
+        return Err(NotWhole::Lacks(4));
     }
     blob_begun(s, at)
 }
 
 // The rest of that null behind its minus: 1, CR LF.
-fn one_begun(s: &[u8], at: usize) -> Begun
+fn one_begun(s: &[u8], at: usize) -> Result<usize, NotWhole>
     requires { length s.now ≤ max_bytes }
     ensures { result ≡ one_begun s.now at }
 {
     if at >= s.len() {
-        return Begun::Lacks(3);
+        return Err(NotWhole::Lacks(3));
     }
     if s[at] != b'1' {
-        return Begun::Never;
+        return Err(NotWhole::Never);
     }
     crlf_begun(s, at + 1)
 }
 
 // The bytes of a verbatim string of length n: at least four, the fourth a colon; CR LF.
-fn verbatim_body(s: &[u8], n: u64, e: usize) -> Begun
+fn verbatim_body(s: &[u8], n: u64, e: usize) -> Result<usize, NotWhole>
     requires { (length s.now ≤ max_bytes) × (n ≤ max_bytes) × (e ≤ length s.now) }
     ensures { result ≡ verbatim_body s.now n e }
 {
     if n < 4 {
-        return Begun::Never;
+        return Err(NotWhole::Never);
     }
     if s.len() <= e + 3 {
         return crlf_begun(s, e + n as usize);
     }
     if s[e + 3] != b':' {
-        return Begun::Never;
+        return Err(NotWhole::Never);
     }
     crlf_begun(s, e + n as usize)
 }
 
 // A verbatim string of whose length digits of value m stand there.
-fn verbatim_digits(m: u64) -> Begun
+fn verbatim_digits(m: u64) -> Result<usize, NotWhole>
     requires { m ≤ max_bytes }
     ensures { result ≡ verbatim_digits m }
 {
     if m >= 4 {
-        return Begun::Lacks(m as usize + 4);
+        return Err(NotWhole::Lacks(m as usize + 4));
     }
     if m == 0 {
-        return Begun::Never;
+        return Err(NotWhole::Never);
     }
-    Begun::Lacks(10 * m as usize + 5)
+    Err(NotWhole::Lacks(10 * m as usize + 5))
 }
 
 // A verbatim string.
-fn verbatim_begun(s: &[u8], at: usize) -> Begun
+fn verbatim_begun(s: &[u8], at: usize) -> Result<usize, NotWhole>
     requires { length s.now ≤ max_bytes }
     ensures { result ≡ verbatim_begun s.now at }
 {
     match count_begun(s, at, config::MAX_BYTES as u64) {
         Count::Whole(n, e) => verbatim_body(s, n, e),
-        Count::Nothing => Begun::Lacks(9),
+        Count::Nothing => Err(NotWhole::Lacks(9)),
         Count::Digits(m) => verbatim_digits(m),
         Count::Ended(m) => {
             if m >= 4 {
-                Begun::Lacks(m as usize + 3)
+                Err(NotWhole::Lacks(m as usize + 3))
             } else {
-                Begun::Never
+                Err(NotWhole::Never)
             }
         }
-        Count::Never => Begun::Never,
+        Count::Never => Err(NotWhole::Never),
     }
 }
 
 // An integer without a minus.
-fn digits_of(c: Count) -> Begun
+fn digits_of(c: Count) -> Result<usize, NotWhole>
     ensures { result ≡ digits_of c }
 {
     match c {
-        Count::Whole(_, e) => Begun::Ends(e),
-        Count::Nothing => Begun::Lacks(3),
-        Count::Digits(_) => Begun::Lacks(2),
-        Count::Ended(_) => Begun::Lacks(1),
-        Count::Never => Begun::Never,
+        Count::Whole(_, e) => Ok(e),
+        Count::Nothing => Err(NotWhole::Lacks(3)),
+        Count::Digits(_) => Err(NotWhole::Lacks(2)),
+        Count::Ended(_) => Err(NotWhole::Lacks(1)),
+        Count::Never => Err(NotWhole::Never),
     }
 }
 
 // What stands behind a minus: no 0.
-fn minus_of(c: Count) -> Begun
+fn minus_of(c: Count) -> Result<usize, NotWhole>
     ensures { result ≡ minus_of c }
 {
     match c {
-        Count::Whole(n, e) => { if n == 0 { Begun::Never } else { Begun::Ends(e) } }
-        Count::Nothing => Begun::Lacks(3),
+        Count::Whole(n, e) => { if n == 0 { Err(NotWhole::Never) } else { Ok(e) } }
+        Count::Nothing => Err(NotWhole::Lacks(3)),
         Count::Digits(m) => {
             if m == 0 {
-                Begun::Never
+                Err(NotWhole::Never)
             } else {
-                Begun::Lacks(2)
+                Err(NotWhole::Lacks(2))
             }
         }
         Count::Ended(m) => {
             if m == 0 {
-                Begun::Never
+                Err(NotWhole::Never)
             } else {
-                Begun::Lacks(1)
+                Err(NotWhole::Lacks(1))
             }
         }
-        Count::Never => Begun::Never,
+        Count::Never => Err(NotWhole::Never),
     }
 }
 
 // An integer of 64 bits, CR LF.
-fn integer_begun(s: &[u8], at: usize) -> Begun
+fn integer_begun(s: &[u8], at: usize) -> Result<usize, NotWhole>
     requires { length s.now ≤ max_bytes }
     ensures { result ≡ integer_begun s.now at }
 {
     if at >= s.len() {
-        return Begun::Lacks(3);
+        return Err(NotWhole::Lacks(3));
     }
     if s[at] == b'-' {
         return minus_of(count_begun(s, at + 1, 9223372036854775808));
@@ -352,58 +286,56 @@ fn integer_begun(s: &[u8], at: usize) -> Begun
 }
 
 // t or f, CR LF.
-fn boolean_begun(s: &[u8], at: usize) -> Begun
+fn boolean_begun(s: &[u8], at: usize) -> Result<usize, NotWhole>
     requires { length s.now ≤ max_bytes }
     ensures { result ≡ boolean_begun s.now at }
 {
     if at >= s.len() {
-        return Begun::Lacks(3);
+        return Err(NotWhole::Lacks(3));
     }
-    if s[at] == b't' {
-        return crlf_begun(s, at + 1);
+    match s[at] {
+        b't' | b'f' => crlf_begun(s, at + 1),
+        _ => Err(NotWhole::Never),
     }
-    if s[at] == b'f' {
-        return crlf_begun(s, at + 1);
-    }
-    Begun::Never
 }
 
 // A value with none inside it.
-fn alone(x: Begun) -> Opened
-    ensures { result ≡ alone_of x }
+fn alone(end: Result<usize, NotWhole>) -> Result<(u64, usize), NotWhole>
+    ensures { result ≡ alone_of end }
 {
-    match x {
-        Begun::Ends(e) => Opened::Of(0, e),
-        Begun::Lacks(k) => Opened::Lacks(k),
-        Begun::Never => Opened::Never,
-    }
+    end.map(|e| (0, e))
 }
 
 // Values behind a count n: per * n of them and more, each nesting at most depth deep.
-fn row_begun(s: &[u8], at: usize, depth: usize, per: u64, more: u64) -> Opened
+fn row_begun(
+    s: &[u8],
+    at: usize,
+    depth: usize,
+    per: u64,
+    more: u64,
+) -> Result<(u64, usize), NotWhole>
     requires { (length s.now ≤ max_bytes) × (per ≤ 2) × (more ≤ 1) }
     ensures { result ≡ row_of depth per more (count_begun max_bytes s.now at) }
 {
     match count_begun(s, at, config::MAX_BYTES as u64) {
-        Count::Whole(n, e) => Opened::Of(per * n + more, e),
+        Count::Whole(n, e) => Ok((per * n + more, e)),
         Count::Nothing => alone(lacking_below(depth, 3, more)),
         Count::Digits(m) => alone(lacking_below(depth, 2, per * m + more)),
         Count::Ended(m) => alone(lacking_below(depth, 1, per * m + more)),
-        Count::Never => Opened::Never,
+        Count::Never => Err(NotWhole::Never),
     }
 }
 
 // What stands at `at`, up to the first value inside it, which nests at most depth deep, by the kind of its first byte.
-fn kind_begun(s: &[u8], at: usize, depth: usize) -> Opened
+fn kind_begun(s: &[u8], at: usize, depth: usize) -> Result<(u64, usize), NotWhole>
     requires { length s.now ≤ max_bytes }
     ensures { result ≡ kind_begun depth s.now at }
 {
     if at >= s.len() {
-        return Opened::Lacks(3);
+        return Err(NotWhole::Lacks(3));
     }
     let p = at + 1;
-    let kind = resp3::kind_of(s[at]);
-    match kind {
+    match Kind::from(s[at]) {
         Kind::BlobString => alone(string_begun(s, p)),
         Kind::SimpleString => alone(line_begun(s, p)),
         Kind::SimpleError => alone(line_begun(s, p)),
@@ -419,101 +351,86 @@ fn kind_begun(s: &[u8], at: usize, depth: usize) -> Opened
         Kind::Set => row_begun(s, p, depth, 1, 0),
         Kind::Attribute => row_begun(s, p, depth, 2, 1),
         Kind::Push => row_begun(s, p, depth, 1, 0),
-        Kind::Unknown => Opened::Never,
+        Kind::Unknown => Err(NotWhole::Never),
     }
 }
 
 // A null of RESP2's, which an old server sends.
-fn null_begun(s: &[u8], at: usize) -> Opened
+fn null_begun(s: &[u8], at: usize) -> Result<(u64, usize), NotWhole>
     requires { length s.now ≤ max_bytes }
     ensures { result ≡ null_begun s.now at }
 {
     if resp3::null_word_at(s, at) {
         return alone(one_begun(s, at + 2));
     }
-    Opened::Never
+    Err(NotWhole::Never)
 }
 
 // Either of the two. By the kind of their first byte those nulls have a length or a count that is none, so that no other value pays for a look at them.
-fn head_begun(s: &[u8], at: usize, depth: usize) -> Opened
+fn head_begun(s: &[u8], at: usize, depth: usize) -> Result<(u64, usize), NotWhole>
     requires { length s.now ≤ max_bytes }
     ensures { result ≡ head_begun depth s.now at }
 {
     match kind_begun(s, at, depth) {
-        Opened::Of(n, e) => Opened::Of(n, e),
-        Opened::Lacks(k) => Opened::Lacks(k),
-        Opened::Never => null_begun(s, at),
+        Ok(head) => Ok(head),
+        Err(NotWhole::Lacks(k)) => Err(NotWhole::Lacks(k)),
+        Err(NotWhole::Never) => null_begun(s, at),
     }
 }
 
 // The value at `at`, nesting at most depth deep.
-fn value_begun(s: &[u8], at: usize, depth: usize) -> Begun
+fn value_begun(s: &[u8], at: usize, depth: usize) -> Result<usize, NotWhole>
     requires { length s.now ≤ max_bytes }
     ensures { result ≡ value_begun depth s.now at }
 {
     if depth == 0 {
-        return Begun::Never;
+        return Err(NotWhole::Never);
     }
-    match head_begun(s, at, depth - 1) {
-        Opened::Lacks(k) => Begun::Lacks(k),
-        Opened::Never => Begun::Never,
-        Opened::Of(n, e) => {
-            let mut q = e;
-            let mut left = n;
-            while left > 0 {
-                left -= 1;
-                match value_begun(s, q, depth - 1) {
-                    Begun::Ends(x) => {
-                        q = x;
-                    }
-                    Begun::Lacks(k) => {
-                        return lacking_row(k, left);
-                    }
-                    Begun::Never => {
-                        return Begun::Never;
-                    }
-                }
+    let (n, e) = head_begun(s, at, depth - 1)?;
+    let mut q = e;
+    for left in (0..n).rev() {
+        match value_begun(s, q, depth - 1) {
+            Ok(x) => {
+                q = x;
             }
-            Begun::Ends(q)
+            Err(NotWhole::Lacks(k)) => {
+                return lacking_row(k, left);
+            }
+            Err(NotWhole::Never) => {
+                return Err(NotWhole::Never);
+            }
         }
     }
+    Ok(q)
 }
 
 // The limit of bytes, where n were received.
-fn within(n: usize, x: Begun) -> Begun
+fn within(n: usize, x: Result<usize, NotWhole>) -> Result<usize, NotWhole>
     ensures { result ≡ within n x }
 {
-    match x {
-        Begun::Ends(e) => Begun::Ends(e),
-        Begun::Lacks(k) => {
+    let Err(why) = x else {
+        return x;
+    };
+    match why {
+        NotWhole::Lacks(k) => {
             if k > config::MAX_BYTES {
-                return Begun::Never;
+                return Err(NotWhole::Never);
             }
             if n <= config::MAX_BYTES - k {
-                Begun::Lacks(k)
+                x
             } else {
-                Begun::Never
+                Err(NotWhole::Never)
             }
         }
-        Begun::Never => Begun::Never,
+        NotWhole::Never => Err(NotWhole::Never),
     }
-}
-
-// So many of n bytes as a value may have.
-fn at_most(n: usize) -> usize
-    ensures { result ≡ min n max_bytes }
-{
-    if n < config::MAX_BYTES {
-        return n;
-    }
-    config::MAX_BYTES
 }
 
 // Of bytes received so far, how far the first value stands in them, of at most 16 MiB and 16 levels.
-pub fn first_value(s: &[u8]) -> Begun
+pub fn first_value(s: &[u8]) -> Result<usize, NotWhole>
     ensures { result ≡ first_value s.now }
 {
     let n = s.len();
-    let end = at_most(n);
+    let end = n.min(config::MAX_BYTES);
     within(n, value_begun(&s[..end], 0, config::MAX_DEPTH))
 }

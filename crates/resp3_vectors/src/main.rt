@@ -3,12 +3,12 @@
 // judges/README.md.
 #![tactic(auto)]
 
-ghost use Rattle.std.specs.Prelude.{◌+◌, ◌≤◌, ◌<◌, length};
 ghost use Rattle.resp3.specs.Value.{IsValue};
 ghost use Rattle.resp3_vectors.specs.Standing.{Standing};
 
 use resp3::Kind;
-use resp3_element::{Cursor, Elements, Integer};
+use resp3_element::Cursor;
+use std::fmt;
 use std::io::{self, BufWriter, Read, Write};
 
 // The most bytes that are read.
@@ -17,33 +17,30 @@ const MAX_INPUT: u64 = 65_536;
 // The most bytes that a line is to spell; what stands behind them is not looked at.
 const MAX_SPELLED: usize = 4096;
 
-fn put<W: Write>(to: &mut W, s: &[u8]) -> io::Result<()> {
-    to.write_all(s)
-}
+// A kind, shown by RESP3's name.
+#[derive(Clone, Copy)]
+struct Name(Kind);
 
-fn put_number<W: Write>(to: &mut W, n: u64) -> io::Result<()> {
-    write!(to, "{n}")
-}
-
-// A kind, by RESP3's name.
-fn put_kind<W: Write>(to: &mut W, k: Kind) -> io::Result<()> {
-    match k {
-        Kind::BlobString => put(to, b"blob string"),
-        Kind::SimpleString => put(to, b"simple string"),
-        Kind::SimpleError => put(to, b"simple error"),
-        Kind::Number => put(to, b"number"),
-        Kind::Null => put(to, b"null"),
-        Kind::Double => put(to, b"double"),
-        Kind::Boolean => put(to, b"boolean"),
-        Kind::BlobError => put(to, b"blob error"),
-        Kind::VerbatimString => put(to, b"verbatim string"),
-        Kind::BigNumber => put(to, b"big number"),
-        Kind::Array => put(to, b"array"),
-        Kind::Map => put(to, b"map"),
-        Kind::Set => put(to, b"set"),
-        Kind::Attribute => put(to, b"attribute"),
-        Kind::Push => put(to, b"push"),
-        Kind::Unknown => put(to, b"unknown"),
+impl fmt::Display for Name {
+    fn fmt<W: fmt::Write>(&self, f: &mut fmt::Formatter<W>) -> fmt::Result {
+        f.write_str(match self.0 {
+            Kind::BlobString => "blob string",
+            Kind::SimpleString => "simple string",
+            Kind::SimpleError => "simple error",
+            Kind::Number => "number",
+            Kind::Null => "null",
+            Kind::Double => "double",
+            Kind::Boolean => "boolean",
+            Kind::BlobError => "blob error",
+            Kind::VerbatimString => "verbatim string",
+            Kind::BigNumber => "big number",
+            Kind::Array => "array",
+            Kind::Map => "map",
+            Kind::Set => "set",
+            Kind::Attribute => "attribute",
+            Kind::Push => "push",
+            Kind::Unknown => "unknown",
+        })
     }
 }
 
@@ -51,17 +48,18 @@ fn put_kind<W: Write>(to: &mut W, k: Kind) -> io::Result<()> {
 fn put_integer<W: Write>(to: &mut W, z: i64) -> io::Result<()> {
     match z {
         0 | 1234 | 12345 | -1 | -2 | i64::MAX | i64::MIN => write!(to, "{z}"),
-        _ => put(to, b"another"),
+        _ => to.write_all(b"another"),
     }
 }
 
 // An element: its kind, and how many bytes it takes.
 fn put_element<W: Write>(to: &mut W, v: &[u8]) -> io::Result<()> {
-    put(to, b", ")?;
-    put_kind(to, resp3_element::kind(v))?;
-    put(to, b" in ")?;
-    put_number(to, v.len() as u64)?;
-    put(to, b" bytes")
+    write!(
+        to,
+        ", {} in {} bytes",
+        Name(resp3_element::kind(v)),
+        v.len()
+    )
 }
 
 // The elements from a cursor on.
@@ -69,7 +67,7 @@ fn put_elements<W: Write>(to: &mut W, s: &[u8], first: Cursor) -> io::Result<()>
     requires { Standing s.now first }
 {
     let mut c = first;
-    while c.left > 0 {
+    for _ in 0..first.left {
         put_element(to, resp3_element::element(s, c))?;
         c = resp3_element::next(s, c);
     }
@@ -80,8 +78,7 @@ fn put_elements<W: Write>(to: &mut W, s: &[u8], first: Cursor) -> io::Result<()>
 fn put_list<W: Write>(to: &mut W, s: &[u8], first: Cursor) -> io::Result<()>
     requires { Standing s.now first }
 {
-    put(to, b" of ")?;
-    put_number(to, first.left)?;
+    write!(to, " of {}", first.left)?;
     put_elements(to, s, first)
 }
 
@@ -90,23 +87,23 @@ fn describe<W: Write>(to: &mut W, s: &[u8]) -> io::Result<()>
     requires { IsValue s.now }
 {
     let k = resp3_element::kind(s);
-    put_kind(to, k)?;
+    write!(to, "{}", Name(k))?;
     if resp3_element::is_error(s) {
-        put(to, b", a server error")?;
+        to.write_all(b", a server error")?;
     }
-    if let Integer::Is(z) = resp3_element::number(s) {
-        put(to, b" ")?;
+    if let Some(z) = resp3_element::number(s) {
+        to.write_all(b" ")?;
         put_integer(to, z)?;
     }
-    if let Kind::BlobString = k {
-        put(to, b" [")?;
-        put(to, resp3_element::blob(s))?;
-        put(to, b"]")?;
+    if k == Kind::BlobString {
+        to.write_all(b" [")?;
+        to.write_all(resp3_element::blob(s))?;
+        to.write_all(b"]")?;
     }
-    if let Elements::Of(c) = resp3_element::array(s) {
+    if let Some(c) = resp3_element::array(s) {
         put_list(to, s, c)?;
     }
-    if let Elements::Of(c) = resp3_element::push(s) {
+    if let Some(c) = resp3_element::push(s) {
         put_list(to, s, c)?;
     }
     Ok(())
@@ -117,15 +114,14 @@ fn show<W: Write>(to: &mut W, s: &[u8]) -> io::Result<()> {
     if resp3::is_value(s) {
         describe(to, s)
     } else {
-        put(to, b"refused")
+        to.write_all(b"refused")
     }
 }
 
 // What the first n bytes of a buffer are found to be.
 fn show_front<W: Write>(to: &mut W, out: &[u8], n: usize) -> io::Result<()> {
     if n <= out.len() {
-        let start = 0;
-        show(to, &out[start..n])?;
+        show(to, &out[..n])?;
     }
     Ok(())
 }
@@ -143,56 +139,46 @@ fn spelled(b: u8, behind: bool) -> u8 {
     }
 }
 
-// The place behind a backslash at i, or i.
-fn past_backslash(line: &[u8], i: usize) -> usize
-    requires { i < length line.now }
-    ensures { (i ≤ result) × (result ≤ i + 1) }
-{
-    if line[i] == b'\\' { i + 1 } else { i }
-}
-
 // The bytes that a line spells, as far as the buffer holds them: how many they are.
 fn unescape(line: &[u8], out: &mut [u8]) -> usize {
-    let mut i = 0;
     let mut n = 0;
-    while n < out.len() {
-        if i >= line.len() {
-            return n;
+    let mut behind = false;
+    for &b in line {
+        if n == out.len() {
+            break;
         }
-        let k = past_backslash(line, i);
-        if k >= line.len() {
-            return n;
+        if b == b'\\' && !behind {
+            behind = true;
+        } else {
+            out[n] = spelled(b, behind);
+            behind = false;
+            n += 1;
         }
-        out[n] = spelled(line[k], i < k);
-        i = k + 1;
-        n += 1;
     }
     n
 }
 
 // A line of the input, and behind it what its bytes are found to be.
 fn show_line<W: Write>(to: &mut W, line: &[u8]) -> io::Result<()> {
-    put(to, line)?;
+    to.write_all(line)?;
     if is_heading(line) {
-        return put(to, b"\n");
+        return to.write_all(b"\n");
     }
     let mut out = [0; MAX_SPELLED];
     let n = unescape(line, &mut out);
-    put(to, b" => ")?;
+    to.write_all(b" => ")?;
     show_front(to, &out, n)?;
-    put(to, b"\n")
+    to.write_all(b"\n")
 }
 
 // Whether a line is a heading: it begins with a byte that begins no value.
 fn is_heading(line: &[u8]) -> bool {
-    if line.len() == 0 {
-        return false;
-    }
-    line[0] == b'/'
+    line.starts_with(b"/")
 }
 
 fn show_lines<W: Write>(to: &mut W, s: &[u8]) -> io::Result<()> {
     let mut at = 0;
+    // Kept: no plainer as a `for`: behind the last line feed `split` has one piece more, which is no line.
     while at < s.len() {
         let end = vectors_lines::line_end(s, at);
         show_line(to, &s[at..end])?;

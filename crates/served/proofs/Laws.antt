@@ -1,7 +1,7 @@
 -- The passes of resolving over no replies find and write what the definitions of Served.antt say. Assumes nothing.
 -- (Where a definition changes, a worked case is to say so first: this file cites one.)
 use Rattle.std.proofs.Math.Path.{◌≡◌}
-use Rattle.std.specs.Prelude.{refl, Bool, true, false, List, [], ◌∷◌, ◌++◌, ℕ, ◌+◌, ◌≤◌, leb, length}
+use Rattle.std.specs.Prelude.{refl, Bool, true, false, List, [], ◌∷◌, ◌++◌, ℕ, ◌+◌, ◌≤◌, leb, length, Result, Ok, Err, Option as Maybe, Some, None}
 use Rattle.std.proofs.Common.{sym, ap, ap₂, ◌∙◌, arith, length-append, leb-true}
 use Rattle.std.proofs.Math.Option.{Option, some}
 use Rattle.std.proofs.Math.Option as option
@@ -9,7 +9,8 @@ use Rattle.buffer.specs.Cases.{by_test}
 use Rattle.buffer.specs.Same.{Bytes}
 use Rattle.buffer.specs.Part.{part, put}
 use Rattle.buffer.specs.PartLaws.{put-put}
-use Rattle.config.specs.Causes.{short_answer, bad_plan}
+use Rattle.config.specs.declared.Cause.{Cause}
+use Rattle.config.specs.declared.Cause.TheVariants.{ShortAnswer, BadPlan}
 use Rattle.config.specs.declared.CacheMode.{CacheMode}
 use Rattle.config.specs.declared.CacheMode.TheVariants.{All, OptIn}
 use Rattle.resp3.specs.Value.{Value, Values, array, none, more, encs}
@@ -26,7 +27,7 @@ use Rattle.resolving_walk.proofs.WalkLaws.{plan-walk, result-pieces}
 use Rattle.resolving_step.specs.declared.Walk.{Walk}
 use Rattle.resolving_step.specs.Arms.{empty_stands}
 use Rattle.room.specs.Room.{spent, whole}
-use Rattle.room.specs.declared.Room.{Room}
+use Rattle.std.specs.Prelude as room_left
 use Rattle.resolving_passes.specs.declared.Dry.{Dry}
 use Rattle.resolving_passes.specs.declared.Dry.TheVariants.{Fits, Short, Wrong}
 use Rattle.resolving_passes.specs.Passes.{dry_of, Starts, Begins, DryIs, answer_bytes}
@@ -34,8 +35,6 @@ use Rattle.caching_cmd.specs.Parts.{start_at}
 use Rattle.caching_cmd.specs.Settle.{dry_for, Many}
 use Rattle.caching_cmd.proofs.Settle.{dry-says}
 use Rattle.caching_cmd.specs.Laws.{PlanRead, plan-read, starts, many-answers}
-use Rattle.served.specs.declared.ServedAnswer.{ServedAnswer}
-use Rattle.served.specs.declared.ServedAnswer.TheVariants.{Answered, NeedsReplies, Refused}
 use Rattle.served.specs.Served.{with_answer, served_answers, served_from, buffer_from, served_of, buffer_of, served_call, served_buffer, ServedIs}
 use Rattle.served.specs.Laws.{unreplied, no_list, no_replies, no_cursor, WrittenFrom}
 
@@ -88,16 +87,16 @@ list-none false = refl
 -- ---- what the dry pass finds
 
 -- an answer and a buffer, by the answers of the commands
-abbrev Comes : Bool → Option Values → Bytes → Bytes → ServedAnswer → Type 0
+abbrev Comes : Bool → Option Values → Bytes → Bytes → Result (Maybe ℕ) Cause → Type 0
 Comes transaction o buffer after r = (r ≡ served_from transaction o (length buffer)) × (after ≡ buffer_from transaction o buffer)
 
 module _ (transaction : Bool) (o : Option Values) (buffer : Bytes) where
   -- a wrong shape: replies are needed
-  wrong-says : Wrong ≡ dry_for transaction (unreplied o) (length buffer) → Comes transaction o buffer buffer NeedsReplies
+  wrong-says : Wrong ≡ dry_for transaction (unreplied o) (length buffer) → Comes transaction o buffer buffer (Ok None)
   unfolding dry_for served_from buffer_from
   wrong-says e = go o e
     where
-      go : (o : Option Values) → Wrong ≡ dry_for transaction (unreplied o) (length buffer) → Comes transaction o buffer buffer NeedsReplies
+      go : (o : Option Values) → Wrong ≡ dry_for transaction (unreplied o) (length buffer) → Comes transaction o buffer buffer (Ok None)
       go option.none h = (refl, refl)
       go (some vs) h =
           by_test (leb (length (result_bytes transaction vs)) (length buffer))
@@ -105,11 +104,11 @@ module _ (transaction : Bool) (o : Option Values) (buffer : Bytes) where
           (λ t. absurd (let k : Wrong ≡ Short = rw t at h in let z : ◌≡◌ {A = ℕ} 0 1 = cc in omega arith))
 
   -- a short buffer
-  short-says : Short ≡ dry_for transaction (unreplied o) (length buffer) → Comes transaction o buffer buffer (Refused short_answer)
+  short-says : Short ≡ dry_for transaction (unreplied o) (length buffer) → Comes transaction o buffer buffer (Err ShortAnswer)
   unfolding dry_for served_from buffer_from
   short-says e = go o e
     where
-      go : (o : Option Values) → Short ≡ dry_for transaction (unreplied o) (length buffer) → Comes transaction o buffer buffer (Refused short_answer)
+      go : (o : Option Values) → Short ≡ dry_for transaction (unreplied o) (length buffer) → Comes transaction o buffer buffer (Err ShortAnswer)
       go option.none h = absurd (let z : ◌≡◌ {A = ℕ} 0 1 = cc in omega arith)
       go (some vs) h =
           by_test (leb (length (result_bytes transaction vs)) (length buffer))
@@ -120,7 +119,7 @@ module _ (transaction : Bool) (o : Option Values) (buffer : Bytes) where
   fits-says : (k : ℕ) → Many (unreplied o) k → Fits ≡ dry_for transaction (unreplied o) (length buffer) → (r : ℕ) (after : Bytes)
       → (r ≡ length (result_head transaction k) + length (answer_bytes (walked_of (unreplied o))))
       × (after ≡ put (put buffer 0 (result_head transaction k)) (length (result_head transaction k)) (answer_bytes (walked_of (unreplied o))))
-      → Comes transaction o buffer after (Answered r)
+      → Comes transaction o buffer after (Ok (Some r))
   unfolding dry_for served_from buffer_from
   fits-says k m e r after w = go o m e w
     where
@@ -129,7 +128,7 @@ module _ (transaction : Bool) (o : Option Values) (buffer : Bytes) where
 
       go : (o : Option Values) → Many (unreplied o) k → Fits ≡ dry_for transaction (unreplied o) (length buffer)
           → (r ≡ length H + length (answer_bytes (walked_of (unreplied o)))) × (after ≡ put (put buffer 0 H) (length H) (answer_bytes (walked_of (unreplied o))))
-          → Comes transaction o buffer after (Answered r)
+          → Comes transaction o buffer after (Ok (Some r))
       go option.none m h w = absurd (let z : ◌≡◌ {A = ℕ} 0 1 = cc in omega arith)
       go (some vs) m h w =
           by_test (leb (length (result_bytes transaction vs)) (length buffer))
@@ -138,13 +137,13 @@ module _ (transaction : Bool) (o : Option Values) (buffer : Bytes) where
           let n : length (result_bytes transaction vs) ≡ length H + length (encs vs []) = ap length b ∙ length-append H (encs vs []) in
           let i = leb-true (length (result_bytes transaction vs)) (length buffer) t in
           rw t (
-            ap Answered (w.0 ∙ sym n),
+            ap (λ (i : ℕ). Ok (Some i)) (w.0 ∙ sym n),
             w.1 ∙ put-put buffer H (encs vs []) 0 (length H) (omega arith) (omega arith) ∙ ap (put buffer 0) (sym b),
           ))
           (λ t. absurd (let k : Fits ≡ Short = rw t at h in let z : ◌≡◌ {A = ℕ} 0 1 = cc in omega arith))
 
 -- bytes that are no plan
-pub not-one : (plan buffer : Bytes) → is_plan plan ≡ false → ServedIs plan buffer buffer (Refused bad_plan)
+pub not-one : (plan buffer : Bytes) → is_plan plan ≡ false → ServedIs plan buffer buffer (Err BadPlan)
 unfolding served_of buffer_of decode_plan
 not-one plan buffer e = rw e (refl, refl)
 
@@ -199,7 +198,7 @@ module _ (plan list : Bytes) (ok : is_plan plan ≡ true) (l : list ≡ no_repli
     unfolding buffer_of
     buffer-is = rw decoded
 
-    module _ (transaction : Bool) (k : ℕ) (room : Room) (d : Dry) (a : transaction ≡ p.transaction) (b : k ≡ p.commands)
+    module _ (transaction : Bool) (k : ℕ) (room : room_left.Option ℕ) (d : Dry) (a : transaction ≡ p.transaction) (b : k ≡ p.commands)
         (q : room ≡ spent (whole (length buffer)) (length (result_head transaction k))) (f : DryIs plan list c All 0 room d) where
       dry-is : d ≡ dry_for p.transaction (unreplied answers) (length buffer)
       dry-is =
@@ -208,15 +207,15 @@ module _ (plan list : Bytes) (ok : is_plan plan ≡ true) (l : list ≡ no_repli
           ∙ dry-says p.transaction (unreplied answers) (length buffer) p.commands many
 
       -- some command needs replies
-      pub needs-them : d ≡ Wrong → ServedIs plan buffer buffer NeedsReplies
+      pub needs-them : d ≡ Wrong → ServedIs plan buffer buffer (Ok None)
       needs-them w = rw (call-is, buffer-is) (wrong-says p.transaction answers buffer (sym w ∙ dry-is))
 
       -- the buffer is short
-      pub is-short : d ≡ Short → ServedIs plan buffer buffer (Refused short_answer)
+      pub is-short : d ≡ Short → ServedIs plan buffer buffer (Err ShortAnswer)
       is-short w = rw (call-is, buffer-is) (short-says p.transaction answers buffer (sym w ∙ dry-is))
 
       -- the result is written
-      pub is-written : d ≡ Fits → (r : ℕ) (after : Bytes) → WrittenFrom plan list c transaction k buffer after r → ServedIs plan buffer after (Answered r)
+      pub is-written : d ≡ Fits → (r : ℕ) (after : Bytes) → WrittenFrom plan list c transaction k buffer after r → ServedIs plan buffer after (Ok (Some r))
       is-written w r after h =
           let z = h p.nodes none none here in
           rw (call-is, buffer-is)

@@ -1,5 +1,5 @@
 -- What a plan comes to without replies is what resolving makes of it, whatever the arena, the settings, the clock and the epoch. Assumes nothing.
-use Rattle.std.specs.Prelude.{◌≡◌, Bool, [], ℕ, leb, length, replicate}
+use Rattle.std.specs.Prelude.{◌≡◌, Bool, [], ℕ, leb, length, replicate, Result, Ok, Err, Option as Maybe, Some, None}
 use Rattle.std.proofs.Math.Path.{refl, ap}
 use Rattle.std.proofs.Common.{◌∙◌, arith}
 use Rattle.std.proofs.Math.Bool.{true, false}
@@ -8,10 +8,10 @@ use Rattle.std.proofs.Math.Option as option
 use Rattle.buffer.specs.Same.{Bytes}
 use Rattle.buffer.specs.Part.{put}
 use Rattle.buffer.specs.Cases.{by_test}
-use Rattle.config.specs.Causes.{bad_shape, short_answer}
 use Rattle.config.specs.Config.{checked}
 use Rattle.config.specs.declared.Settings.{Settings}
-use Rattle.config.specs.declared.CheckedConfig.TheVariants.{Fine}
+use Rattle.config.specs.declared.Cause.{Cause}
+use Rattle.config.specs.declared.Cause.TheVariants.{BadShape, ShortAnswer}
 use Rattle.decimal.specs.Digits.{digits}
 use Rattle.resp3.specs.Value.{Values, none, encode}
 use Rattle.resp3.specs.Ends.{is_value}
@@ -29,21 +29,18 @@ use Rattle.resolving_walk.specs.Commands.{plan_read}
 use Rattle.resolving.specs.Convert.{replies_of}
 use Rattle.resolving.specs.Resolve.{Resolved, cause7, answered, resolve, take_commands}
 use Rattle.resolving.specs.Result.{result_bytes}
-use Rattle.caching_cmd.specs.declared.ResolveAnswer.{ResolveAnswer}
-use Rattle.caching_cmd.specs.declared.ResolveAnswer.TheVariants.{Answered, Refused}
-use Rattle.caching_cmd.specs.Call.{returning, fits, told_to, refused_of, answer_of, buffer_after, resolved_on, planned, resolve_call}
+use Rattle.caching_cmd.specs.declared.Answered.{Answered}
+use Rattle.caching_cmd.specs.Call.{answered_with, returning, fits, told_to, refused_of, answer_of, buffer_after, resolved_on, planned, resolve_call}
 use Rattle.call_entry.specs.Entered.{on_rows, entered}
-use Rattle.served.specs.declared.ServedAnswer.{ServedAnswer}
-use Rattle.served.specs.declared.ServedAnswer.TheVariants.{Answered as Served, NeedsReplies, Refused as NotServed}
 use Rattle.served.specs.Served.{served_answers, served_from, buffer_from, served_of, buffer_of, served_call, served_buffer}
 use Rattle.served.specs.Laws.{no_list}
 use Rattle.served.proofs.Laws.{all-served, no-replies, list-none}
 
 -- what resolving would answer: as many bytes and no store refused, or the same cause; a command that needs replies and finds none is cause 7
-abbrev pub as_resolving : ServedAnswer → ResolveAnswer
-as_resolving (Served n) = Answered n 0
-as_resolving NeedsReplies = Refused bad_shape
-as_resolving (NotServed n) = Refused n
+abbrev pub as_resolving : Result (Maybe ℕ) Cause → Result Answered Cause
+as_resolving (Ok (Some n)) = answered_with n 0
+as_resolving (Ok None) = Err BadShape
+as_resolving (Err cause) = Err cause
 
 -- ---- a book that stays as it was
 
@@ -61,19 +58,19 @@ module _ (p : Setup) (rows : ℕ → Row) (h : Held) (e : decode is_value p h.ar
   unfolding resolved_on answer_of buffer_after told_to fits refused_of served_from buffer_from call-defs after_all answers ons stores refusals
   served-on vs =
       by_test (leb (length (result_bytes transaction vs)) (length buffer))
-      (λ t. rw t (ap (λ (k : Held). returning (Answered (length (result_bytes transaction vs)) 0) (put buffer 0 (result_bytes transaction vs)) k)
+      (λ t. rw t (ap (λ (k : Held). returning (answered_with (length (result_bytes transaction vs)) 0) (put buffer 0 (result_bytes transaction vs)) k)
       (nothing-held p rows h e)))
-      (λ t. rw t (ap (λ (k : Held). returning (Refused short_answer) buffer k) (nothing-held p rows h e)))
+      (λ t. rw t (ap (λ (k : Held). returning (Err ShortAnswer) buffer k) (nothing-held p rows h e)))
 
   -- cause 7 before any store
-  unserved-on : resolved_on p rows transaction epoch (cause7 []) buffer h ≡ returning (Refused bad_shape) (replicate (length buffer) 0) h
+  unserved-on : resolved_on p rows transaction epoch (cause7 []) buffer h ≡ returning (Err BadShape) (replicate (length buffer) 0) h
   unfolding resolved_on answer_of buffer_after told_to fits call-defs after_all answers ons stores
-  unserved-on = ap (λ (k : Held). returning (Refused bad_shape) (replicate (length buffer) 0) k) (nothing-held p rows h e)
+  unserved-on = ap (λ (k : Held). returning (Err BadShape) (replicate (length buffer) 0) k) (nothing-held p rows h e)
 
 -- ---- the theorems, for a call that neither cause 1 nor cause 9 refuses
 
 module _ (size mode ttl : ℕ) (plan : Bytes) (clock epoch : ℕ) (buffer : Bytes) (h : Held) (g : Settings)
-    (c : checked size mode ttl (length h.arena) ≡ Fine g)
+    (c : checked size mode ttl (length h.arena) ≡ Ok g)
     (rows : ℕ → Row) (e : decode is_value (setup_now g) h.arena ≡ some rows) (p : nodes.Plan) (d : decode_plan plan ≡ some p) where
   abbrev answers_of : Option Values
   answers_of = served_answers (plan_read p).commands
@@ -130,8 +127,8 @@ module _ (size mode ttl : ℕ) (plan : Bytes) (clock epoch : ℕ) (buffer : Byte
 
   -- and where some command needs replies, resolving without them is refused as 7
   pub unserved-alone : served_answers (plan_read p).commands ≡ option.none
-      → (served_call plan (length buffer) ≡ NeedsReplies)
-      × (resolve_call size mode ttl plan no_reply_bytes clock epoch buffer h ≡ returning (Refused bad_shape) (replicate (length buffer) 0) h)
+      → (served_call plan (length buffer) ≡ Ok None)
+      × (resolve_call size mode ttl plan no_reply_bytes clock epoch buffer h ≡ returning (Err BadShape) (replicate (length buffer) 0) h)
   unfolding served_from
   unserved-alone s = (
     call-is ∙ rw s,

@@ -1,5 +1,5 @@
 -- Plans answered without replies, computed: the order of the causes, what is written and what stays. Assumes nothing.
-use Rattle.std.specs.Prelude.{◌≡◌, refl, [], ◌∷◌, ◌++◌, ℕ, replicate}
+use Rattle.std.specs.Prelude.{◌≡◌, refl, [], ◌∷◌, ◌++◌, ℕ, replicate, Ok, Err, Some, None}
 use Rattle.buffer.specs.Same.{Bytes, same}
 use Rattle.buffer.specs.Field.{le, le32, le64, read_le}
 use Rattle.buffer.specs.Part.{part, put}
@@ -17,7 +17,7 @@ use Rattle.planning.specs.Rules.{order-defs}
 use Rattle.plan.specs.Decode.{decode-defs}
 use Rattle.resolving_walk.specs.Commands.{value_at, place_at, values_at, places_at, commands_of, plan_read}
 use Rattle.resolving.specs.Result.{result_bytes}
-use Rattle.served.specs.declared.ServedAnswer.TheVariants.{Answered, NeedsReplies, Refused}
+use Rattle.config.specs.declared.Cause.TheVariants.{ShortAnswer, BadPlan}
 use Rattle.served.specs.Served.{served_answers, served_from, buffer_from, served_of, buffer_of, served_call, served_buffer}
 
 -- one name that opens the whole call
@@ -45,21 +45,21 @@ unfolding case-defs
 all-written = refl
 
 -- in a transaction inside `*1`
-in-transaction : served_call (two_served 1) 23 ≡ Answered 23
+in-transaction : served_call (two_served 1) 23 ≡ Ok (Some 23)
 unfolding case-defs
 in-transaction = refl
 
 -- 8: nothing is written
-short-by-one : served_call (two_served 0) 18 ≡ Refused 8
+short-by-one : served_call (two_served 0) 18 ≡ Err ShortAnswer
 unfolding case-defs
 short-by-one = refl
 
 -- a command whose reply is handed on needs replies, before 8
-pub hands_on : served_call (start 0 2 ++ (node 1 0 (ascii "_\r\n") 3 ++ node 0 0 [] 0)) 0 ≡ NeedsReplies
+pub hands_on : served_call (start 0 2 ++ (node 1 0 (ascii "_\r\n") 3 ++ node 0 0 [] 0)) 0 ≡ Ok None
 unfolding case-defs
 hands_on = refl
 
 -- 10 first
-no-plan : served_call [] 0 ≡ Refused 10
+no-plan : served_call [] 0 ≡ Err BadPlan
 unfolding case-defs
 no-plan = refl

@@ -10,22 +10,10 @@ ghost use Rattle.plan.specs.Decode.{is_plan};
 ghost use Rattle.served.specs.Served.{ServedIs};
 ghost use Rattle.served.specs.Laws.{no_replies, WrittenFrom};
 
-use config::CacheMode;
+use config::{CacheMode, Cause};
 use resolving_passes::Dry;
 use resolving_step::Walk;
 use resp3_element::Cursor;
-use room::Room;
-
-// What a plan comes to without replies.
-#[derive(Drop)]
-pub enum ServedAnswer {
-    // All is served, and so many bytes of result stand in the answer buffer.
-    Answered(usize),
-    // Some command needs replies.
-    NeedsReplies,
-    // The number of the cause.
-    Refused(u64),
-}
 
 // Writes the result.
 fn write_served<'a>(
@@ -45,7 +33,11 @@ fn write_served<'a>(
 }
 
 // A plan that is one, with no replies.
-fn served_checked<'a>(plan: &'a [u8], none: &'a [u8], answer: &mut [u8]) -> ServedAnswer
+fn served_checked<'a>(
+    plan: &'a [u8],
+    none: &'a [u8],
+    answer: &mut [u8],
+) -> Result<Option<usize>, Cause>
     requires { (is_plan plan.now ≡ true) × (none.now ≡ no_replies plan.now) }
     ensures { ServedIs plan.now answer.old answer.new result }
 {
@@ -57,27 +49,24 @@ fn served_checked<'a>(plan: &'a [u8], none: &'a [u8], answer: &mut [u8]) -> Serv
     let start = caching_cmd::start_at(first);
     let transaction = caching_cmd::is_transaction(plan);
     let n = caching_cmd::command_count(plan);
-    let whole = Room {
-        left: answer.len(),
-        short: false,
-    };
-    let room = room::spend(whole, caching_cmd::head_len(transaction, n));
+    let room = room::spend(Some(answer.len()), caching_cmd::head_len(transaction, n));
     match resolving_passes::dry_pass(plan, none, start, CacheMode::All, 0, room) {
-        Dry::Wrong => ServedAnswer::NeedsReplies,
-        Dry::Short => ServedAnswer::Refused(config::SHORT_ANSWER),
+        Dry::Wrong => Ok(None),
+        Dry::Short => Err(Cause::ShortAnswer),
         Dry::Fits => {
             let end = write_served(plan, none, start, transaction, n, answer);
-            ServedAnswer::Answered(end)
+            Ok(Some(end))
         }
     }
 }
 
-// Answers a plan whose commands are all served: cause 10, then whether replies are needed, then cause 8.
-pub fn served(plan: &[u8], answer: &mut [u8]) -> ServedAnswer
+// Answers a plan whose commands are all served: how many bytes of result stand in the answer buffer, or nothing where some command needs replies.
+// Cause 10 comes first, then whether replies are needed, then cause 8.
+pub fn served(plan: &[u8], answer: &mut [u8]) -> Result<Option<usize>, Cause>
     ensures { ServedIs plan.now answer.old answer.new result }
 {
     if !plan_check::is_plan(plan) {
-        return ServedAnswer::Refused(config::BAD_PLAN);
+        return Err(Cause::BadPlan);
     }
     served_checked(plan, &plan[..0], answer)
 }

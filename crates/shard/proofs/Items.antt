@@ -12,7 +12,7 @@ use Rattle.book.specs.Book.{Item, Row, find, without, replace, row_bytes}
 use Rattle.book.proofs.Rows.{Place, without-absent}
 use Rattle.book.specs.Sound.{Distinct}
 use Rattle.arena.specs.Edit.{item_bytes}
-use Rattle.shard.specs.declared.Position.TheVariants.{At, Absent}
+use Rattle.std.specs.Prelude.{Some, None}
 use Rattle.shard.specs.Holds.{Holds, Stands, ItemAt}
 use Rattle.shard.specs.Position.{position_from, position_of}
 use Rattle.shard.proofs.Walk.{Here}
@@ -28,7 +28,7 @@ there h t = record { front = t.front; back = t.back; item = t.thing; stands = st
 -- ---- the key's item
 
 -- an item that has the key is the one
-pub position_here : (at : ℕ) (k : Bytes) (it : Item) (row : Row) → same k it.key ≡ true → position_from at k (it ∷ row) ≡ At at
+pub position_here : (at : ℕ) (k : Bytes) (it : Item) (row : Row) → same k it.key ≡ true → position_from at k (it ∷ row) ≡ Some at
 unfolding position_from
 position_here at k it row e = rw e
 
@@ -45,13 +45,13 @@ record Found (from : ℕ) (k : Bytes) (row : Row) (at : ℕ) : Type 0 where
   pub place : Place k row item
   pub at-is : at ≡ from + row_bytes place.front
 
-found : (from : ℕ) (k : Bytes) (row : Row) (at : ℕ) → Distinct row → position_from from k row ≡ At at → Found from k row at
+found : (from : ℕ) (k : Bytes) (row : Row) (at : ℕ) → Distinct row → position_from from k row ≡ Some at → Found from k row at
 unfolding position_from find without replace row_bytes
 found from k [] at d e = let z : ◌≡◌ {A = ℕ} 0 1 = cc in absurd (omega arith)
 found from k (it ∷ row) at d e =
     by_test (same k it.key)
     (λ q.
-    let a : At from ≡ At at = rw q at e in
+    let a : Some from ≡ Some at = rw q at e in
     let b : from ≡ at = cc in
     record {
       item = it;
@@ -88,7 +88,7 @@ pub record KeyAt (s k : Bytes) (row : Row) (at : ℕ) : Type 0 where
   pub place : Place k row item
   pub stands : Stands s at place.front place.back item
 
-pub key-at : {s : Bytes} {k : Bytes} {row : Row} {at : ℕ} → Holds s row → position_of k row ≡ At at → KeyAt s k row at
+pub key-at : {s : Bytes} {k : Bytes} {row : Row} {at : ℕ} → Holds s row → position_of k row ≡ Some at → KeyAt s k row at
 key-at {s} {k} {row} {at} h e =
     let f = found 16 k row at h.distinct e in
     record {
@@ -102,10 +102,10 @@ pub item-at : {s k : Bytes} {row : Row} {at : ℕ} → KeyAt s k row at → Item
 item-at g = record { front = g.place.front; back = g.place.back; item = g.item; stands = g.stands }
 
 -- a key with no place has no item
-pub no_item : (from : ℕ) (k : Bytes) (row : Row) → position_from from k row ≡ Absent → find k row ≡ none
+pub no_item : (from : ℕ) (k : Bytes) (row : Row) → position_from from k row ≡ None → find k row ≡ none
 unfolding position_from find
 no_item from k [] e = refl
 no_item from k (it ∷ row) e =
     by_test (same k it.key)
-    (λ q. let a : At from ≡ Absent = rw q at e in let z : ◌≡◌ {A = ℕ} 0 1 = cc in absurd (omega arith))
+    (λ q. let a : Some from ≡ None = rw q at e in let z : ◌≡◌ {A = ℕ} 0 1 = cc in absurd (omega arith))
     (λ q. rw q (no_item (from + item_bytes it) k row (rw q at e)))

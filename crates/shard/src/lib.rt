@@ -13,13 +13,6 @@ ghost use Rattle.arena.specs.Edit.{item_bytes};
 ghost use Rattle.shard.specs.Holds.{Holds, Shard, Stands, ItemAt};
 ghost use Rattle.shard.specs.Position.{position_of};
 
-// Where something begins, if it is there.
-#[derive(Drop)]
-pub enum Position {
-    At(usize),
-    Absent,
-}
-
 // The bytes that the item at `at` takes.
 pub fn item_len(s: &[u8], at: usize) -> usize
     requires { ItemAt s.now at }
@@ -82,19 +75,20 @@ fn has_key(s: &[u8], at: usize, key: &[u8]) -> bool
 }
 
 // Where the key's item stands.
-pub fn find(s: &[u8], key: &[u8]) -> Position
+pub fn find(s: &[u8], key: &[u8]) -> Option<usize>
     requires { Shard s.now }
     ensures { (row : Row) → Holds s.now row → result ≡ position_of key.now row }
 {
     let end = 16 + buffer::read_u32(s, 4) as usize;
     let mut at: usize = 16;
+    // Kept: no plainer as an iterator, which would hold the bytes, the place and the end, and whose laws would say again what these lines do.
     while at < end {
         if has_key(s, at, key) {
-            return Position::At(at);
+            return Some(at);
         }
         at = at + item_len(s, at);
     }
-    Position::Absent
+    None
 }
 
 // Brings the item at `at` to the front: it is the newest then.
@@ -128,12 +122,12 @@ pub fn invalidate_in(s: &mut [u8], key: &[u8]) -> usize
         (s.new ≡ enc_shard (length s.old) (without key.now row)) × (result ≡ entries_of (find key.now row)) }
 {
     match find(s, key) {
-        Position::At(at) => {
+        Some(at) => {
             let dropped = entry_count(s, at);
             remove(s, at);
             dropped
         }
-        Position::Absent => 0,
+        None => 0,
     }
 }
 
@@ -145,8 +139,9 @@ fn all_entries(s: &[u8]) -> usize
     let end = 16 + buffer::read_u32(s, 4) as usize;
     let mut at: usize = 16;
     let mut n: usize = 0;
+    // Kept: no plainer as an iterator, for what stands in `find`.
     while at < end {
-        n = n + entry_count(s, at);
+        n += entry_count(s, at);
         at = at + item_len(s, at);
     }
     n

@@ -19,7 +19,7 @@ use Rattle.arena.proofs.Pieces.{enc_entries-append, entry_bytes-append}
 use Rattle.arena.proofs.Read.{command-length, value-length, entry-command, entry_value}
 use Rattle.arena.specs.Edit.{item_bytes}
 use Rattle.arena.specs.Place.{entries_place}
-use Rattle.shard.specs.declared.Position.TheVariants.{At, Absent}
+use Rattle.std.specs.Prelude.{Some, None}
 use Rattle.shard_lookup.specs.declared.Reading.TheVariants.{Value}
 use Rattle.shard_lookup.specs.Looked.{Reads}
 use Rattle.shard.specs.Holds.{Stands}
@@ -132,7 +132,7 @@ part-item {s} {at} {it} p skip len h =
 
 -- ---- the command key's entry
 
-pub entry_here : (at : ℕ) (c : Bytes) (en : Entry) (ens : List Entry) → same c en.command ≡ true → entry_from at c (en ∷ ens) ≡ At at
+pub entry_here : (at : ℕ) (c : Bytes) (en : Entry) (ens : List Entry) → same c en.command ≡ true → entry_from at c (en ∷ ens) ≡ Some at
 unfolding entry_from
 entry_here at c en ens e = rw e
 
@@ -152,13 +152,13 @@ pub record CommandAt (from : ℕ) (c : Bytes) (ens : List Entry) (at : ℕ) : Ty
   pub value-place : entries_place c ens ≡ entry_bytes front + (16 + length entry.command)
   pub set : (v : Bytes) → set_value c v ens ≡ front ++ (record { command = c; value = v } ∷ back)
 
-pub command-at : (from : ℕ) (c : Bytes) (ens : List Entry) (at : ℕ) → entry_from from c ens ≡ At at → CommandAt from c ens at
+pub command-at : (from : ℕ) (c : Bytes) (ens : List Entry) (at : ℕ) → entry_from from c ens ≡ Some at → CommandAt from c ens at
 unfolding entry_from value_for set_value entry_bytes entries_place
 command-at from c [] at e = let z : ◌≡◌ {A = ℕ} 0 1 = cc in absurd (omega arith)
 command-at from c (en ∷ ens) at e =
     by_test (same c en.command)
     (λ q.
-    let a : At from ≡ At at = rw q at e in
+    let a : Some from ≡ Some at = rw q at e in
     let b : from ≡ at = cc in
     record { front = []; entry = en; back = ens; splits = refl; serves = rw q; place = omega arith; value-place = rw q (omega arith); set = λ v. rw q })
     (λ q.
@@ -183,7 +183,7 @@ pub record ValueAt (s : Bytes) (at : ℕ) (it : Item) (c : Bytes) (e : ℕ) : Ty
   pub reads : (t u skip len : ℕ) → current t u it ≡ true → skip ≡ e - at + 16 + length entry.command → len ≡ length entry.value
       → Reads t u c it (Value skip len)
 
-pub value-at : {s : Bytes} {at e : ℕ} {front back : Row} {it : Item} {c : Bytes} → Stands s at front back it → entry_of at c it ≡ At e → ValueAt s at it c e
+pub value-at : {s : Bytes} {at e : ℕ} {front back : Row} {it : Item} {c : Bytes} → Stands s at front back it → entry_of at c it ≡ Some e → ValueAt s at it c e
 value-at {s} {at} {e} {front} {back} {it} {c} w q =
     let g = command-at (at + 32 + length it.key) c it.entries e q in
     let p = g.place in
@@ -201,10 +201,10 @@ value-at {s} {at} {e} {front} {back} {it} {c} w q =
     }
 
 -- a command key with no place has no value
-pub no_value : (from : ℕ) (c : Bytes) (ens : List Entry) → entry_from from c ens ≡ Absent → value_for c ens ≡ none
+pub no_value : (from : ℕ) (c : Bytes) (ens : List Entry) → entry_from from c ens ≡ None → value_for c ens ≡ none
 unfolding entry_from value_for
 no_value from c [] e = refl
 no_value from c (en ∷ ens) e =
     by_test (same c en.command)
-    (λ q. let a : At from ≡ Absent = rw q at e in let z : ◌≡◌ {A = ℕ} 0 1 = cc in absurd (omega arith))
+    (λ q. let a : Some from ≡ None = rw q at e in let z : ◌≡◌ {A = ℕ} 0 1 = cc in absurd (omega arith))
     (λ q. rw q (no_value (from + entry_size en) c ens (rw q at e)))

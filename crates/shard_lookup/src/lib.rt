@@ -17,7 +17,6 @@ ghost use Rattle.shard_lookup.specs.Looked.{Reads, lookup_on, adds_by, Told, Beg
 
 use command_key::CommandKey;
 use config::Now;
-use shard::Position;
 use statistics::Statistics;
 
 // The bytes that the entry at `at` takes.
@@ -44,7 +43,7 @@ fn has_command(s: &[u8], at: usize, source: &[u8], command: CommandKey, len: usi
 }
 
 // Where the command key's entry stands in the item at `at`.
-pub fn find_entry(s: &[u8], at: usize, source: &[u8], command: CommandKey) -> Position
+pub fn find_entry(s: &[u8], at: usize, source: &[u8], command: CommandKey) -> Option<usize>
     requires { ItemAt s.now at × KeyIn source.now command }
     ensures { (front back : Row) (it : Item) → Stands s.now at front back it
         → result ≡ entry_of at (key_bytes source.now command) it }
@@ -52,17 +51,19 @@ pub fn find_entry(s: &[u8], at: usize, source: &[u8], command: CommandKey) -> Po
     let len = command_key::key_len(source, command);
     let end = at + shard::item_len(s, at);
     let mut e = at + 32 + buffer::read_u32(s, at) as usize;
+    // Kept: no plainer as an iterator, which would hold the bytes, the place and the end of an item's entries, for this one loop.
     while e < end {
         if has_command(s, e, source, command, len) {
-            return Position::At(e);
+            return Some(e);
         }
         e = e + entry_len(s, e);
     }
-    Position::Absent
+    None
 }
 
 // What an item has for a lookup.
-#[derive(Clone, Copy)]
+// Kept: no plainer as an Option or a Result, since there are three answers, and each leaves the shard otherwise: without the item, or with it in front.
+#[derive(Clone, Copy, Debug, PartialEq, Eq)]
 enum Reading {
     // It is under another epoch, or past its expiry.
     Stale,
@@ -85,17 +86,18 @@ fn read_item(s: &[u8], at: usize, source: &[u8], command: CommandKey, when: Now)
         return Reading::Stale;
     }
     match find_entry(s, at, source, command) {
-        Position::At(e) => {
+        Some(e) => {
             let skip = e - at + 16 + buffer::read_u32(s, e) as usize;
             let len = buffer::read_u32(s, e + 4) as usize;
             Reading::Value { skip, len }
         }
-        Position::Absent => Reading::Bare,
+        None => Reading::Bare,
     }
 }
 
 // What a lookup answers.
-#[derive(Clone, Copy)]
+// Kept: no plainer as a Result, since a miss is no error, nor as an Option, since a miss has the number of entries that it drops.
+#[derive(Clone, Copy, Debug, PartialEq, Eq)]
 pub enum Looked {
     // The value: the shard's bytes from `from` up to `to`.
     Hit { from: usize, to: usize },
@@ -119,7 +121,7 @@ pub fn peek_in(s: &[u8], key: &[u8], source: &[u8], command: CommandKey, when: N
     ensures { (row : Row) → Holds s.now row
         → Told s.now (lookup_on key.now (key_bytes source.now command) when.clock when.epoch row) result }
 {
-    let Position::At(at) = shard::find(s, key) else {
+    let Some(at) = shard::find(s, key) else {
         return Looked::Miss(0);
     };
     match read_item(s, at, source, command, when) {
@@ -144,7 +146,7 @@ pub fn lookup_in(s: &mut [u8], key: &[u8], source: &[u8], command: CommandKey, w
         × BeginsAt (shard_place key.now (key_bytes source.now command)
         (lookup_on key.now (key_bytes source.now command) when.clock when.epoch row).row) result }
 {
-    let Position::At(at) = shard::find(s, key) else {
+    let Some(at) = shard::find(s, key) else {
         return Looked::Miss(0);
     };
     match read_item(s, at, source, command, when) {

@@ -15,7 +15,7 @@ use Rattle.arena.specs.Edit.{item_bytes, place_after}
 use Rattle.arena.specs.Pieces.{item_of}
 use Rattle.arena.proofs.Pieces.{entry_bytes-append}
 use Rattle.command_key.specs.Key.{key_bytes}
-use Rattle.shard.specs.declared.Position.TheVariants.{At, Absent}
+use Rattle.std.specs.Prelude.{Some, None}
 use Rattle.shard.specs.Holds.{Stands}
 use Rattle.shard.proofs.Fields.{fields, used-read}
 use Rattle.shard_lookup.specs.Entries.{entry_size, entry_of, EntryStands}
@@ -93,11 +93,11 @@ module _ {s : Bytes} {at from to added : ℕ} {front back : Row} {it : Item} {ef
 
 module _ {s : Bytes} {at : ℕ} {front back : Row} {it : Item} (w : Stands s at front back it) where
   -- the command's entry in an item that stands at `at`
-  pub set-in : (c : Bytes) {e : ℕ} → entry_of at (key_bytes c (whole_key c)) it ≡ At e → CommandAt (at + 32 + length it.key) c it.entries e
+  pub set-in : (c : Bytes) {e : ℕ} → entry_of at (key_bytes c (whole_key c)) it ≡ Some e → CommandAt (at + 32 + length it.key) c it.entries e
   set-in c {e} q = command-at (at + 32 + length it.key) c it.entries e (rw (whole-bytes c) at q)
 
   -- it has none
-  pub none_in : (c : Bytes) → entry_of at (key_bytes c (whole_key c)) it ≡ Absent → value_for c it.entries ≡ none
+  pub none_in : (c : Bytes) → entry_of at (key_bytes c (whole_key c)) it ≡ None → value_for c it.entries ≡ none
   none_in c q = no_value _ c it.entries (rw (whole-bytes c) at q)
 
   -- it stands in the bytes

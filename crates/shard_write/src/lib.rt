@@ -16,7 +16,7 @@ ghost use Rattle.arena.specs.Pieces.{item_of};
 ghost use Rattle.shard_write.specs.Places.{new_entry, entry_room, item_room, Spliceable, Pushable, EntriesAt, Counts};
 
 // What a store to an item that is there writes: the item's count of entries, expiry and bytes of its entries, and the shard's bytes used.
-#[derive(Clone, Copy)]
+#[derive(Clone, Copy, Debug, PartialEq, Eq)]
 pub struct Fields {
     pub count: u32,
     pub expiry: u64,

@@ -4,7 +4,7 @@
 // of whatever rows the arena is the image of: what is left is the image of the book's rows after the event, and the answer is the book's.
 #![tactic(auto)]
 
-ghost use Rattle.std.specs.Prelude.{◌≡◌, cond, true, ℕ, ◌+◌, ◌*◌, ◌≤◌};
+ghost use Rattle.std.specs.Prelude.{◌≡◌, cond, true, is_ok, ℕ, ◌+◌, ◌*◌, ◌≤◌};
 ghost use Rattle.std.proofs.Math.Option.{none};
 ghost use Rattle.config.specs.Limits.{max_arena};
 ghost use Rattle.resp3.specs.Ends.{is_value};
@@ -19,31 +19,20 @@ ghost use Rattle.sharded_lru.specs.Admit.{admitted};
 ghost use Rattle.sharded_lru.specs.Placed.{placed_at, Within};
 
 use command_key::CommandKey;
-use config::{CheckedConfig, Now, Settings};
+use config::{CacheConfig, Cause, Now, Settings};
 use shard_lookup::Looked;
+use shard_store::NoSpace;
 
-// What causes 1 and 9 leave of a call.
-#[derive(Clone, Copy)]
-pub enum Admitted {
-    // The arena is an image under these settings.
-    Admits(Settings),
-    // The number of the cause.
-    Refused(u64),
-}
-
-// Causes 1 and 9, with which every call on an arena begins.
-pub fn admit(arena: &[u8], size: u64, mode: u64, ttl: u64) -> Admitted
-    ensures { result ≡ admitted size mode ttl arena.now }
+// Causes 1 and 9, with which every call on an arena begins: the settings under which the arena is an image.
+#[tactic(auto, unfolding(crate::specs::Admit::admitted))]
+pub fn admit(arena: &[u8], cache_config: CacheConfig) -> Result<Settings, Cause>
+    ensures { result ≡ admitted cache_config.size cache_config.mode cache_config.ttl arena.now }
 {
-    match config::check_config(size, mode, ttl, arena.len()) {
-        CheckedConfig::Refused => Admitted::Refused(config::BAD_CONFIG),
-        CheckedConfig::Fine(g) => {
-            if arena_check::is_image(arena, g.shards, g.keys, g.bytes) {
-                return Admitted::Admits(g);
-            }
-            Admitted::Refused(config::BAD_ARENA)
-        }
+    let g = config::check_config(cache_config, arena.len())?;
+    if arena_check::is_image(arena, g.shards, g.keys, g.bytes) {
+        return Ok(g);
     }
+    Err(Cause::BadArena)
 }
 
 // Where the key's shard begins.
@@ -111,7 +100,7 @@ pub fn get(
     placed(start, g.bytes, found)
 }
 
-// Stores the value: whether it was kept. Where it was not, for lack of space, nothing is changed.
+// Stores the value. An error where it was not kept, for lack of space: nothing is changed then.
 pub fn insert(
     arena: &mut [u8],
     g: Settings,
@@ -120,11 +109,11 @@ pub fn insert(
     value: &[u8],
     expiry: u64,
     epoch: u64,
-) -> bool
+) -> Result<(), NoSpace>
     requires { Arena g arena.old × Storable key.now command.now value.now × (is_value value.now ≡ true) }
     ensures { (rows : ℕ → Row) → Lent g arena.old rows
         → Lent g arena.new (rows_after (setup_now g) (on (store key.now command.now value.now expiry epoch)) rows)
-        × (cond result stored no_space ≡ (effect_in (setup_now g) (store key.now command.now value.now expiry epoch) rows).answer) }
+        × (cond (is_ok result) stored no_space ≡ (effect_in (setup_now g) (store key.now command.now value.now expiry epoch) rows).answer) }
 {
     let from = shard_start(g, key);
     let to = from + g.bytes;
@@ -148,11 +137,11 @@ pub fn insert_new(
     value: &[u8],
     expiry: u64,
     epoch: u64,
-) -> bool
+) -> Result<(), NoSpace>
     requires { Arena g arena.old × Storable key.now command.now value.now × (is_value value.now ≡ true) }
     ensures { (rows : ℕ → Row) → Lent g arena.old rows → find key.now (rows (shard_of key.now g.shards)) ≡ none
         → Lent g arena.new (rows_after (setup_now g) (on (store key.now command.now value.now expiry epoch)) rows)
-        × (cond result stored no_space ≡ (effect_in (setup_now g) (store key.now command.now value.now expiry epoch) rows).answer) }
+        × (cond (is_ok result) stored no_space ≡ (effect_in (setup_now g) (store key.now command.now value.now expiry epoch) rows).answer) }
 {
     let a = shard_start(g, key);
     let e = a + g.bytes;
@@ -177,13 +166,11 @@ pub fn invalidate_all(arena: &mut [u8], g: Settings) -> usize
     ensures { (rows : ℕ → Row) → Lent g arena.old rows → Lent g arena.new (rows_after (setup_now g) invalidate_all rows)
         × (result ≡ all_entries g.shards rows) }
 {
-    let mut i: usize = 0;
     let mut n: usize = 0;
-    while i < g.shards {
+    for i in 0..g.shards {
         let from = i * g.bytes;
         let to = from + g.bytes;
-        n = n + shard::clear(&mut arena[from..to]);
-        i += 1;
+        n += shard::clear(&mut arena[from..to]);
     }
     n
 }

@@ -1,6 +1,6 @@
 -- The place of what a single lookup serves, by the book: in the rows after the call where the book's answer is a hit, else the arena's start. And that it
 -- depends on the arena alone of what the caller holds. Assumes that cause 1 lets the settings through.
-use Rattle.std.specs.Prelude.{◌≡◌, ℕ, length}
+use Rattle.std.specs.Prelude.{◌≡◌, ℕ, length, Result, Ok, Err}
 use Rattle.std.proofs.Math.Path.{refl, ap, ap₂}
 use Rattle.std.proofs.Common.{◌∙◌}
 use Rattle.std.proofs.Math.Option.{Option, none, some}
@@ -9,8 +9,7 @@ use Rattle.buffer.specs.Same.{Bytes}
 use Rattle.config.specs.Config.{checked}
 use Rattle.config.specs.Laws.{passed}
 use Rattle.config.specs.declared.Settings.{Settings}
-use Rattle.config.specs.declared.CheckedConfig.{CheckedConfig}
-use Rattle.config.specs.declared.CheckedConfig.TheVariants.{Fine, Refused as BadConfig}
+use Rattle.config.specs.declared.Cause.{Cause}
 use Rattle.siphash.specs.Sip.{sip_hash13}
 use Rattle.resp3.specs.Ends.{is_value}
 use Rattle.book.specs.Book.{Setup, Row, Book, Counts, Keyed, lookup, key_of, after, after_all, effect, put, answer_to, answers}
@@ -45,7 +44,7 @@ looked-formed p o k c t e bk w =
     formed-set p (p.shard_of k) _ bk.rows (o.in-range k) (fine-effect p o.some_key (lookup k c t e) _ tt (w.fine (p.shard_of k))) w))
 
 -- the place on the arena that encodes the book's rows
-pub lookup-place : (size mode ttl n : ℕ) (g : Settings) → checked size mode ttl n ≡ Fine g → (k c : Bytes) (t e : ℕ) (bk : Book)
+pub lookup-place : (size mode ttl n : ℕ) (g : Settings) → checked size mode ttl n ≡ Ok g → (k c : Bytes) (t e : ℕ) (bk : Book)
     → WellFormed is_value (setup_now g) bk.rows
     → let b : Call = call_of (lookup k c t e) in
     lookup_place size mode ttl k c t e (lend (setup_now g) n bk)
@@ -58,7 +57,7 @@ lookup-place size mode ttl n g q k c t e bk w =
     let z : Sized p n = sized sip_hash13 size mode ttl n g ok in
     let o : Proper p = proper sip_hash13 size mode ttl n g ok in
     let l : length (lend p n bk).arena ≡ n = unfold lend in encoded-length is_value p n z bk.rows w in
-    let f : checked size mode ttl (length (lend p n bk).arena) ≡ Fine g = ap (checked size mode ttl) l ∙ q in
+    let f : checked size mode ttl (length (lend p n bk).arena) ≡ Ok g = ap (checked size mode ttl) l ∙ q in
     let d : single_call size mode ttl (lookup k c t e) (lend p n bk)
     ≡ returned (lookup k c t e) (record { outcome = outcome_of (reply_to p b bk); held = lend p n (after_call p b bk) }) =
     as_call size mode ttl (lookup k c t e) (lend p n bk) g f ∙ ap (returned (lookup k c t e)) (one-call is_value p n z o b bk w) in
@@ -81,13 +80,13 @@ module _ (s : Bytes) (a b : Counts) (m n : ℕ) (q : Keyed) where
       (λ u. rw (t, u) (unfold called_on answer_to effect lend call-defs ons after_all after put in (refl, refl))))
 
   -- the call by the outcome of cause 1's test
-  abbrev by : CheckedConfig → Held → Return
+  abbrev by : Result Settings Cause → Held → Return
   by f h = entered (λ n. refused_as n h) (λ g rows. imaged (setup_now g) rows q h) f h.arena
 
-  call-alike : (f : CheckedConfig) → Alike (by f)
+  call-alike : (f : Result Settings Cause) → Alike (by f)
   unfolding entered
-  call-alike BadConfig = (refl, refl)
-  call-alike (Fine g) = go (decode is_value (setup_now g) s)
+  call-alike (Err cause) = (refl, refl)
+  call-alike (Ok g) = go (decode is_value (setup_now g) s)
     where
       go : (o : Option (ℕ → Row)) → Alike (λ h. on_rows (λ n. refused_as n h) (λ rows. imaged (setup_now g) rows q h) o)
       go none = unfold on_rows in (refl, refl)
@@ -98,10 +97,10 @@ pub place-alike : (size mode ttl : ℕ) (k c : Bytes) (t e : ℕ) (s : Bytes) (a
 unfolding lookup_place single_call
 place-alike size mode ttl k c t e s a b m n = go (checked size mode ttl (length s))
   where
-    go : (f : CheckedConfig) → place_under f k c (by s a b m n (lookup k c t e) f (holding s a m))
+    go : (f : Result Settings Cause) → place_under f k c (by s a b m n (lookup k c t e) f (holding s a m))
         ≡ place_under f k c (by s a b m n (lookup k c t e) f (holding s b n))
-    go BadConfig = unfold place_under in refl
-    go (Fine g) =
-        let l = call-alike s a b m n (lookup k c t e) (Fine g) in
+    go (Err cause) = unfold place_under in refl
+    go (Ok g) =
+        let l = call-alike s a b m n (lookup k c t e) (Ok g) in
         unfold place_under place_left in
         ap₂ (λ (v : Option Bytes) (u : Bytes). served_at v (place_in (setup_now g) k c (decode is_value (setup_now g) u))) l.0 l.1

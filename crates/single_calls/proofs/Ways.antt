@@ -5,15 +5,15 @@ use native.Mathlib.Omega.{arith}
 use mathlib.Core.Bool.{Bool, true, false, cond}
 use mathlib.Core.Option.{none, some}
 use lib.ListN.{length}
-use lib.Dec.{eqb}
+use Rattle.std.specs.Prelude.{Result, Ok, Err, Some}
 use Rattle.buffer.specs.Same.{Bytes}
 use Rattle.buffer.specs.Part.{part}
 use Rattle.buffer.specs.PartLaws.{length_part}
-use Rattle.config.specs.Causes.{too_long, bad_reply, no_space}
+use Rattle.config.specs.Causes.{too_long, bad_reply, number, cause_numbered}
 use Rattle.config.specs.Config.{checked}
 use Rattle.config.specs.declared.Settings.{Settings}
-use Rattle.config.specs.declared.CheckedConfig.{CheckedConfig}
-use Rattle.config.specs.declared.CheckedConfig.TheVariants.{Fine, Refused as BadConfig}
+use Rattle.config.specs.declared.Cause.{Cause}
+use Rattle.config.specs.declared.Cause.TheVariants.{NoSpace}
 use Rattle.statistics.specs.OfBook.{counts_of, adding}
 use Rattle.statistics.specs.OfBookLaws.{adding-counts}
 use Rattle.statistics.specs.declared.Statistics.{Statistics}
@@ -34,10 +34,7 @@ use Rattle.shard_lookup.specs.Whole.{whole_key, whole-bytes}
 use Rattle.sharded_lru.specs.Lent.{setup_now, Lent, effect_in, rows_after}
 use Rattle.sharded_lru.specs.Laws.{sized}
 use Rattle.sharded_lru.specs.Admit.{admitted, Entered}
-use Rattle.sharded_lru.specs.declared.Admitted.TheVariants.{Refused as NotAdmitted}
 use Rattle.call_entry.specs.Laws.{is-entered, not_entered}
-use Rattle.single_calls.specs.declared.Answered.TheVariants.{Done, Refused}
-use Rattle.single_calls.specs.declared.Found.TheVariants.{Denied}
 use Rattle.call_entry.specs.Entered.{no_cause, holding}
 use Rattle.single_calls.specs.Single.{Return, refused_as, overlong, wrong_bytes, number_of, served_by, called_on, imaged, single_call}
 use Rattle.single_calls.specs.Place.{place_in, served_at, place_left, place_under, lookup_place}
@@ -48,11 +45,11 @@ use Rattle.single_calls.specs.Answers.{Left, LookupLeft, InvalidationLeft, looke
 
 module _ (size mode ttl : ℕ) (q : Keyed) (s : Bytes) where
   -- a call that is not admitted
-  pub not-admitted : (n : ℕ) (lent : Counts) (next : ℕ) → admitted size mode ttl s ≡ NotAdmitted n
-      → single_call size mode ttl q (holding s lent next) ≡ refused_as n (holding s lent next)
+  pub not-admitted : (cause : Cause) (lent : Counts) (next : ℕ) → admitted size mode ttl s ≡ Err cause
+      → single_call size mode ttl q (holding s lent next) ≡ refused_as (number cause) (holding s lent next)
   unfolding single_call
-  not-admitted n lent next e =
-      not_entered (λ n. refused_as n (holding s lent next)) (λ g rows. imaged (setup_now g) rows q (holding s lent next)) size mode ttl n s e
+  not-admitted cause lent next e =
+      not_entered (λ n. refused_as n (holding s lent next)) (λ g rows. imaged (setup_now g) rows q (holding s lent next)) size mode ttl cause s e
 
   -- one that is
   pub is-admitted : (g : Settings) (lent : Counts) (next : ℕ) → Entered size mode ttl s g
@@ -85,16 +82,16 @@ module _ (p : Setup) (rows : ℕ → Row) (q : Keyed) (h : Held) where
 
 -- ---- refused, everything is left as it was
 
-module _ (d : Return) (n : ℕ) (some-cause : eqb n no_cause ≡ false) (s : Bytes) where
-  pub left-refused : (lent : Counts) (next : ℕ) → d ≡ refused_as n (holding s lent next) → Left d s (Refused n)
-  left-refused lent next e = rw e (record { answer = refused-is (refused_as n (holding s lent next)) n some-cause refl; cause = refl; arena = refl })
+module _ (d : Return) (cause : Cause) (some-cause : cause_numbered (number cause) ≡ Some cause) (s : Bytes) where
+  pub left-refused : (lent : Counts) (next : ℕ) → d ≡ refused_as (number cause) (holding s lent next) → Left d s (Err cause)
+  left-refused lent next e = rw e (record { answer = refused-is (refused_as (number cause) (holding s lent next)) cause some-cause refl; cause = refl; arena = refl })
 
-  pub lookup-refused : (c : Statistics) (next at : ℕ) → d ≡ refused_as n (holding s (counts_of c) next) → 0 ≡ at
-      → LookupLeft d at s (record { found = Denied n; counts = c })
+  pub lookup-refused : (c : Statistics) (next at : ℕ) → d ≡ refused_as (number cause) (holding s (counts_of c) next) → 0 ≡ at
+      → LookupLeft d at s (record { found = Err cause; counts = c })
   lookup-refused c next at e a =
       rw e
       (record {
-        answer = denied-is (refused_as n (holding s (counts_of c) next)) at n some-cause refl;
+        answer = denied-is (refused_as (number cause) (holding s (counts_of c) next)) at cause some-cause refl;
         cause = refl;
         value = refl;
         place = a;
@@ -103,10 +100,10 @@ module _ (d : Return) (n : ℕ) (some-cause : eqb n no_cause ≡ false) (s : Byt
         counts = refl;
       })
 
-  pub invalidation-refused : (c : Statistics) (next : ℕ) → d ≡ refused_as n (holding s (counts_of c) next)
-      → InvalidationLeft d s (record { answer = Refused n; counts = c })
+  pub invalidation-refused : (c : Statistics) (next : ℕ) → d ≡ refused_as (number cause) (holding s (counts_of c) next)
+      → InvalidationLeft d s (record { answer = Err cause; counts = c })
   invalidation-refused c next e =
-      rw e (record { answer = refused-is (refused_as n (holding s (counts_of c) next)) n some-cause refl; cause = refl; arena = refl; counts = refl })
+      rw e (record { answer = refused-is (refused_as (number cause) (holding s (counts_of c) next)) cause some-cause refl; cause = refl; arena = refl; counts = refl })
 
 -- nothing is served there, so that the place is the arena's start
 pub no-place-left : (p : Setup) (k c : Bytes) (d : Return) (n : ℕ) (h : Held) → d ≡ refused_as n h → 0 ≡ place_left p k c d
@@ -118,9 +115,9 @@ pub no_place : (size mode ttl : ℕ) (k c : Bytes) (t u n : ℕ) (h g : Held) �
 unfolding lookup_place
 no_place size mode ttl k c t u n h g e = go (checked size mode ttl (length h.arena))
   where
-    go : (f : CheckedConfig) → 0 ≡ place_under f k c (single_call size mode ttl (lookup k c t u) h)
-    go BadConfig = unfold place_under in refl
-    go (Fine f) = unfold place_under in no-place-left (setup_now f) k c _ n g e
+    go : (f : Result Settings Cause) → 0 ≡ place_under f k c (single_call size mode ttl (lookup k c t u) h)
+    go (Err cause) = unfold place_under in refl
+    go (Ok f) = unfold place_under in no-place-left (setup_now f) k c _ n g e
 
 -- ---- the book's call
 
@@ -162,14 +159,14 @@ module _ (g : Settings) (s u : Bytes) (rows : ℕ → Row) (q : Keyed) (next : �
 
   -- a store, whether its value was kept
   pub store-left : (lent : Counts) (b kept : Bool) → b ≡ kept → cond b stored spaceless ≡ (effect_in (setup_now g) q rows).answer
-      → Left (here lent) u (cond kept Done (Refused no_space))
+      → Left (here lent) u (cond kept (Ok tt) (Err NoSpace))
   unfolding number_of
   store-left lent b true i a =
       let n = cause-is lent stored (sym (rw i at a)) in
       record { answer = done-is (here lent) n; cause = n; arena = arena-is lent }
   store-left lent b false i a =
       let n = cause-is lent spaceless (sym (rw i at a)) in
-      record { answer = refused-is (here lent) no_space refl n; cause = n; arena = arena-is lent }
+      record { answer = refused-is (here lent) NoSpace refl n; cause = n; arena = arena-is lent }
 
   -- the rows that it left are read from its arena, so that the place of a value served is the place in them
   place_is : (lent : Counts) (k c v : Bytes) → some v ≡ (here lent).value
@@ -221,7 +218,7 @@ module _ (g : Settings) (s u : Bytes) (rows : ℕ → Row) (q : Keyed) (next : �
 
     -- an invalidation, by the entries dropped
     pub invalidation-left : (m : ℕ) → (effect_in (setup_now g) q rows).answer ≡ invalidated → (effect_in (setup_now g) q rows).adds ≡ plus 0 0 m
-        → InvalidationLeft (here (counts_of c)) u (record { answer = Done; counts = adding c (plus 0 0 m) })
+        → InvalidationLeft (here (counts_of c)) u (record { answer = Ok tt; counts = adding c (plus 0 0 m) })
     unfolding number_of
     invalidation-left m a b =
         record {

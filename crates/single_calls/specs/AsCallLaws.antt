@@ -1,6 +1,6 @@
 -- A single call is the book's call on bytes: what demand 3's sequences are made of is what the single calls do. Assumes that cause 1 lets the settings
 -- through.
-use Rattle.std.specs.Prelude.{◌≡◌, ℕ, Bool, true, false, ◌||◌, length}
+use Rattle.std.specs.Prelude.{◌≡◌, ℕ, Bool, true, false, ◌||◌, length, Ok}
 use Rattle.std.proofs.Math.Path.{refl}
 use Rattle.std.proofs.Common.{sym, ap, ltb-false}
 use Rattle.std.proofs.lemmas.Bool.{false≢true, not-false}
@@ -9,7 +9,6 @@ use Rattle.buffer.specs.Cases.{by_test}
 use Rattle.buffer.specs.Same.{Bytes}
 use Rattle.config.specs.Config.{checked}
 use Rattle.config.specs.declared.Settings.{Settings}
-use Rattle.config.specs.declared.CheckedConfig.TheVariants.{Fine}
 use Rattle.resp3.specs.Ends.{is_value}
 use Rattle.book.specs.Book.{Setup, Row, Keyed, lookup, store, invalidate, answers}
 use Rattle.book.specs.Calls.{refused, ons, events_of, call-defs}
@@ -32,7 +31,7 @@ unfolding call_with call-defs answers outcome_of
 refused-held p rows h d = ap (λ (k : Held). record { outcome = denied; held = k }) (sym (entry.refused-held p rows h d))
 
 -- a single call is the book's call on bytes
-pub as_call : (size mode ttl : ℕ) (q : Keyed) (h : Held) (g : Settings) → checked size mode ttl (length h.arena) ≡ Fine g
+pub as_call : (size mode ttl : ℕ) (q : Keyed) (h : Held) (g : Settings) → checked size mode ttl (length h.arena) ≡ Ok g
     → single_call size mode ttl q h ≡ returned q (call_on is_value (setup_now g) (call_of q) h)
 unfolding single_call entered call_on
 as_call size mode ttl q h g e = rw e (go (decode is_value (setup_now g) h.arena) refl)

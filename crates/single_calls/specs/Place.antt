@@ -1,10 +1,10 @@
 -- Where the value that a single lookup serves stands in the arena that it leaves. Assumes nothing: these are definitions.
-use Rattle.std.specs.Prelude.{ℕ, length}
+use Rattle.std.specs.Prelude.{ℕ, length, Result, Ok, Err}
 use Rattle.std.proofs.Math.Option.{Option, none, some}
 use Rattle.buffer.specs.Same.{Bytes}
 use Rattle.config.specs.Config.{checked}
-use Rattle.config.specs.declared.CheckedConfig.{CheckedConfig}
-use Rattle.config.specs.declared.CheckedConfig.TheVariants.{Fine, Refused as BadConfig}
+use Rattle.config.specs.declared.Cause.{Cause}
+use Rattle.config.specs.declared.Settings.{Settings}
 use Rattle.resp3.specs.Ends.{is_value}
 use Rattle.book.specs.Book.{Setup, Row, lookup}
 use Rattle.arena.specs.Decode.{decode}
@@ -27,9 +27,9 @@ served_at (some v) at = at
 unfoldable pub place_left : Setup → Bytes → Bytes → Return → ℕ
 place_left p k c d = served_at d.value (place_in p k c (decode is_value p d.held.arena))
 
-unfoldable pub place_under : CheckedConfig → Bytes → Bytes → Return → ℕ
-place_under BadConfig k c d = 0
-place_under (Fine g) k c d = place_left (setup_now g) k c d
+unfoldable pub place_under : Result Settings Cause → Bytes → Bytes → Return → ℕ
+place_under (Err cause) k c d = 0
+place_under (Ok g) k c d = place_left (setup_now g) k c d
 
 -- the whole: size, mode's number, default TTL; key, command key, clock and epoch of the lookup; what the caller holds
 unfoldable pub lookup_place : ℕ → ℕ → ℕ → Bytes → Bytes → ℕ → ℕ → Held → ℕ

@@ -1,4 +1,4 @@
-// The cache's single calls on a lent arena: setup, lookup, store and invalidate. Nothing is asked of the caller: what is wrong is refused by a cause's number.
+// The cache's single calls on a lent arena: setup, lookup, store and invalidate. Nothing is asked of the caller: what is wrong is refused by its cause.
 // After `CacheManager::new` and `ShardedLRU::get`, `insert` and `invalidate`. specs/Single.antt says what each returns and leaves.
 #![tactic(auto)]
 
@@ -14,68 +14,46 @@ ghost use Rattle.call_entry.specs.Entered.{holding};
 ghost use Rattle.single_calls.specs.Answers.{Left, LookupLeft, InvalidationLeft, looked_up};
 
 use command_key::CommandKey;
-use config::{CheckedConfig, Now, Settings};
+use config::{CacheConfig, Cause, Now, Settings};
 use cursor::Range;
 use shard_lookup::Looked;
-use sharded_lru::Admitted;
 use statistics::Statistics;
 
 // What stands for a cause's number where no cause refuses a call.
+// Kept: a number, since the structs that C is given have one for every answer (include/redis_cache.h); no Rust function answers it.
 pub const NO_CAUSE: u64 = 0;
 
-// What setup comes to.
-#[derive(Clone, Copy)]
-pub enum NewCache {
-    // A fresh cache: the epoch that it takes, and the next epoch number.
-    Fresh(u64, u64),
-    // The number of the cause; the arena is left as it was.
-    Refused(u64),
+// What setup gives: the epoch that the fresh cache takes, and the next epoch number.
+#[derive(Clone, Copy, PartialEq, Eq, Debug)]
+pub struct NewCache {
+    pub epoch: u64,
+    pub next: u64,
 }
 
-// Sets a cache up in the arena, whatever the arena held.
-pub fn setup(arena: &mut [u8], size: u64, mode: u64, ttl: u64) -> NewCache
-    ensures answer { result ≡ set_up (checked size mode ttl (length arena.old)) }
-    ensures bytes { arena.new ≡ fresh_arena (checked size mode ttl (length arena.old)) arena.old }
+// Sets a cache up in the arena, whatever the arena held. Where a cause refuses it, the arena is left as it was.
+pub fn setup(arena: &mut [u8], cache_config: CacheConfig) -> Result<NewCache, Cause>
+    ensures answer { result ≡ set_up (checked cache_config.size cache_config.mode cache_config.ttl (length arena.old)) }
+    ensures bytes { arena.new ≡ fresh_arena (checked cache_config.size cache_config.mode cache_config.ttl (length arena.old)) arena.old }
 {
     let n = arena.len();
-    match config::check_config(size, mode, ttl, n) {
-        CheckedConfig::Refused => NewCache::Refused(config::BAD_CONFIG),
-        CheckedConfig::Fine(_) => {
-            buffer::fill_zero(arena, 0, n);
-            NewCache::Fresh(0, 1)
-        }
-    }
-}
-
-// What a store or an invalidation comes to.
-#[derive(Clone, Copy)]
-pub enum Answered {
-    Done,
-    // The number of the cause; everything is left as it was.
-    Refused(u64),
-}
-
-// What a lookup comes to.
-#[derive(Clone, Copy)]
-pub enum Found {
-    // The value: the arena's bytes from `from` up to `to`, as the lookup leaves them.
-    Hit { from: usize, to: usize },
-    Miss,
-    // The number of the cause; everything is left as it was.
-    Denied(u64),
+    config::check_config(cache_config, n)?;
+    buffer::fill_zero(arena, 0, n);
+    Ok(NewCache { epoch: 0, next: 1 })
 }
 
 // What a lookup returns: with the counts, which it was given by value.
 #[derive(Clone, Copy)]
 pub struct LookedUp {
-    pub found: Found,
+    // Where the value stands in the arena as the lookup leaves it, if there is one; or the cause, where everything is left as it was.
+    pub found: Result<Option<Range>, Cause>,
     pub counts: Statistics,
 }
 
 // What an invalidation returns.
 #[derive(Clone, Copy)]
 pub struct Invalidated {
-    pub answer: Answered,
+    // Where a cause refuses it, everything is left as it was.
+    pub answer: Result<(), Cause>,
     pub counts: Statistics,
 }
 
@@ -99,11 +77,14 @@ fn counted(counts: Statistics, found: Looked) -> LookedUp
     let sum = shard_lookup::counted(counts, found);
     match found {
         Looked::Hit { from, to } => LookedUp {
-            found: Found::Hit { from, to },
+            found: Ok(Some(Range {
+                start: from,
+                end: to,
+            })),
             counts: sum,
         },
         Looked::Miss(_) => LookedUp {
-            found: Found::Miss,
+            found: Ok(None),
             counts: sum,
         },
     }
@@ -129,7 +110,7 @@ fn lookup_admitted(
     let n = command.len();
     if too_long(key.len(), n, 0) {
         return LookedUp {
-            found: Found::Denied(config::TOO_LONG),
+            found: Err(Cause::TooLong),
             counts,
         };
     }
@@ -141,26 +122,25 @@ fn lookup_admitted(
 // Looks the command key's value up under the key.
 pub fn lookup(
     arena: &mut [u8],
-    size: u64,
-    mode: u64,
-    ttl: u64,
+    cache_config: CacheConfig,
     when: Now,
     key: &[u8],
     command: &[u8],
     counts: Statistics,
 ) -> LookedUp
     ensures { (next : ℕ) →
-        LookupLeft (single_call size mode ttl (lookup key.now command.now when.clock when.epoch)
+        LookupLeft (single_call cache_config.size cache_config.mode cache_config.ttl (lookup key.now command.now when.clock when.epoch)
         (holding arena.old (counts_of counts) next))
-        (lookup_place size mode ttl key.now command.now when.clock when.epoch (holding arena.old (counts_of counts) next))
+        (lookup_place cache_config.size cache_config.mode cache_config.ttl key.now command.now when.clock when.epoch (holding arena.old (counts_of counts) next))
         arena.new result }
 {
-    match sharded_lru::admit(arena, size, mode, ttl) {
-        Admitted::Refused(n) => LookedUp {
-            found: Found::Denied(n),
+    // Kept: a match, since a refusal is returned with the counts that were given, which `?` cannot add.
+    match sharded_lru::admit(arena, cache_config) {
+        Err(cause) => LookedUp {
+            found: Err(cause),
             counts,
         },
-        Admitted::Admits(g) => lookup_admitted(arena, g, when, key, command, counts),
+        Ok(g) => lookup_admitted(arena, g, when, key, command, counts),
     }
 }
 
@@ -173,44 +153,40 @@ fn store_admitted(
     command: &[u8],
     value: &[u8],
     expiry: u64,
-) -> Answered
+) -> Result<(), Cause>
     requires { Arena g arena.old }
     ensures { (rows : ℕ → Row) (lent : Counts) (next : ℕ) → Lent g arena.old rows →
         Left (imaged (setup_now g) rows (store key.now command.now value.now expiry epoch)
         (holding arena.old lent next)) arena.new result }
 {
     if too_long(key.len(), command.len(), value.len()) {
-        return Answered::Refused(config::TOO_LONG);
+        return Err(Cause::TooLong);
     }
     if !resp3::is_value(value) {
-        return Answered::Refused(config::BAD_REPLY);
+        return Err(Cause::BadReply);
     }
-    if sharded_lru::insert(arena, g, key, command, value, expiry, epoch) {
-        return Answered::Done;
+    match sharded_lru::insert(arena, g, key, command, value, expiry, epoch) {
+        Ok(()) => Ok(()),
+        Err(_) => Err(Cause::NoSpace),
     }
-    Answered::Refused(config::NO_SPACE)
 }
 
 // Stores the value for the command key under the key, up to the expiry given. It neither takes nor changes the counts.
 pub fn store(
     arena: &mut [u8],
-    size: u64,
-    mode: u64,
-    ttl: u64,
+    cache_config: CacheConfig,
     epoch: u64,
     key: &[u8],
     command: &[u8],
     value: &[u8],
     expiry: u64,
-) -> Answered
+) -> Result<(), Cause>
     ensures { (lent : Counts) (next : ℕ) →
-        Left (single_call size mode ttl (store key.now command.now value.now expiry epoch)
+        Left (single_call cache_config.size cache_config.mode cache_config.ttl (store key.now command.now value.now expiry epoch)
         (holding arena.old lent next)) arena.new result }
 {
-    match sharded_lru::admit(arena, size, mode, ttl) {
-        Admitted::Refused(n) => Answered::Refused(n),
-        Admitted::Admits(g) => store_admitted(arena, g, epoch, key, command, value, expiry),
-    }
+    let g = sharded_lru::admit(arena, cache_config)?;
+    store_admitted(arena, g, epoch, key, command, value, expiry)
 }
 
 // An invalidation that causes 1 and 9 admitted.
@@ -222,13 +198,13 @@ fn invalidate_admitted(arena: &mut [u8], g: Settings, key: &[u8], counts: Statis
 {
     if too_long(key.len(), 0, 0) {
         return Invalidated {
-            answer: Answered::Refused(config::TOO_LONG),
+            answer: Err(Cause::TooLong),
             counts,
         };
     }
     let n = sharded_lru::invalidate(arena, g, key);
     Invalidated {
-        answer: Answered::Done,
+        answer: Ok(()),
         counts: counts.increase_each(0, 0, n as u64),
     }
 }
@@ -236,21 +212,20 @@ fn invalidate_admitted(arena: &mut [u8], g: Settings, key: &[u8], counts: Statis
 // Drops the key's item.
 pub fn invalidate(
     arena: &mut [u8],
-    size: u64,
-    mode: u64,
-    ttl: u64,
+    cache_config: CacheConfig,
     key: &[u8],
     counts: Statistics,
 ) -> Invalidated
     ensures { (next : ℕ) →
-        InvalidationLeft (single_call size mode ttl (invalidate key.now) (holding arena.old (counts_of counts) next))
+        InvalidationLeft (single_call cache_config.size cache_config.mode cache_config.ttl (invalidate key.now) (holding arena.old (counts_of counts) next))
         arena.new result }
 {
-    match sharded_lru::admit(arena, size, mode, ttl) {
-        Admitted::Refused(n) => Invalidated {
-            answer: Answered::Refused(n),
+    // Kept: a match, since a refusal is returned with the counts that were given, which `?` cannot add.
+    match sharded_lru::admit(arena, cache_config) {
+        Err(cause) => Invalidated {
+            answer: Err(cause),
             counts,
         },
-        Admitted::Admits(g) => invalidate_admitted(arena, g, key, counts),
+        Ok(g) => invalidate_admitted(arena, g, key, counts),
     }
 }

@@ -2,26 +2,17 @@
 // Rust's `DefaultHasher` answers where the bytes are written to it, as `get_shard` of sharded_lru.rs does.
 #![tactic(auto)]
 
-ghost use Rattle.std.specs.Prelude.{◌≡◌, ◌+◌, ◌*◌, ◌^◌, ◌<◌};
-ghost use Rattle.siphash.specs.Sip.{rotated, sip_round, initial, compressed, last_word, finished, sip_hash13};
+ghost use Rattle.std.specs.Prelude.{◌≡◌, ◌<◌};
+ghost use Rattle.siphash.specs.Sip.{sip_round, initial, compressed, last_word, finished, sip_hash13};
 ghost use Rattle.siphash.specs.Shard.{shard_of};
 
 // The four words of the hash's state.
-#[derive(Drop)]
+#[derive(Clone, Copy, Drop)]
 struct Sip {
     v0: u64,
     v1: u64,
     v2: u64,
     v3: u64,
-}
-
-// A word rotated to the left.
-#[tactic(auto, unfolding(crate::specs::Sip::rotated))]
-fn rotl(x: u64, k: u64) -> u64
-    requires { (0 < k) × (k < 64) }
-    ensures { result ≡ rotated x k }
-{
-    (x << k) | (x >> (64 - k))
 }
 
 impl Sip {
@@ -38,22 +29,22 @@ impl Sip {
         }
     }
 
-    #[tactic(auto, unfolding(crate::specs::Sip::sip_round))]
+    #[tactic(auto, unfolding(crate::specs::Sip::sip_round, crate::specs::Sip::rotated))]
     fn sip_round(self) -> Sip
         ensures { result ≡ sip_round self }
     {
-        let a0 = std::num::wrapping_add_u64(self.v0, self.v1);
-        let a2 = std::num::wrapping_add_u64(self.v2, self.v3);
-        let a1 = rotl(self.v1, 13) ^ a0;
-        let a3 = rotl(self.v3, 16) ^ a2;
-        let b2 = std::num::wrapping_add_u64(a2, a1);
-        let b0 = std::num::wrapping_add_u64(rotl(a0, 32), a3);
-        let b1 = rotl(a1, 17) ^ b2;
-        let b3 = rotl(a3, 21) ^ b0;
+        let a0 = self.v0.wrapping_add(self.v1);
+        let a2 = self.v2.wrapping_add(self.v3);
+        let a1 = self.v1.rotate_left(13) ^ a0;
+        let a3 = self.v3.rotate_left(16) ^ a2;
+        let b2 = a2.wrapping_add(a1);
+        let b0 = a0.rotate_left(32).wrapping_add(a3);
+        let b1 = a1.rotate_left(17) ^ b2;
+        let b3 = a3.rotate_left(21) ^ b0;
         Sip {
             v0: b0,
             v1: b1,
-            v2: rotl(b2, 32),
+            v2: b2.rotate_left(32),
             v3: b3,
         }
     }
@@ -64,18 +55,11 @@ impl Sip {
         ensures { result ≡ compressed 1 self m }
     {
         let s = Sip {
-            v0: self.v0,
-            v1: self.v1,
-            v2: self.v2,
             v3: self.v3 ^ m,
+            ..self
         };
         let t = s.sip_round();
-        Sip {
-            v0: t.v0 ^ m,
-            v1: t.v1,
-            v2: t.v2,
-            v3: t.v3,
-        }
+        Sip { v0: t.v0 ^ m, ..t }
     }
 
     // The hash, by three rounds.
@@ -84,49 +68,34 @@ impl Sip {
         ensures { result ≡ finished 3 self }
     {
         let s = Sip {
-            v0: self.v0,
-            v1: self.v1,
             v2: self.v2 ^ 255,
-            v3: self.v3,
+            ..self
         };
         let t = s.sip_round().sip_round().sip_round();
         t.v0 ^ t.v1 ^ t.v2 ^ t.v3
     }
 }
 
-// The number that one byte more spells, below the bytes of m.
-fn lower(m: u64, b: u8) -> u64
-    requires { m < 2 ^ 56 }
-    ensures { result ≡ m * 256 + b }
-{
-    m * 256 + b as u64
-}
-
 // The bytes behind the whole words, from the last one down, and the length's lowest byte above them.
 fn last_word(key: &[u8]) -> u64
     ensures { result ≡ last_word key.now }
 {
-    let n = key.len();
-    let from = 8 * (n / 8);
-    let mut m: u64 = 0;
-    let mut i = n;
-    while from < i {
-        i -= 1;
-        m = lower(m, key[i]);
-    }
-    m + (n % 256) as u64 * 72057594037927936
+    let (_, rest) = key.as_chunks::<8>();
+    let low = rest
+        .iter()
+        .rev()
+        .fold(0, |word, byte| word << 8 | u64::from(*byte));
+    low + (key.len() % 256) as u64 * 72057594037927936
 }
 
 // The hash of a key's bytes.
 pub fn sip_hash_13(key: &[u8]) -> u64
     ensures { result ≡ sip_hash13 key.now }
 {
-    let words = key.len() / 8;
+    let (words, _) = key.as_chunks::<8>();
     let mut s = Sip::new();
-    let mut i = 0;
-    while i < words {
-        s = s.compress(buffer::read_u64(key, 8 * i));
-        i += 1;
+    for word in words {
+        s = s.compress(u64::from_le_bytes(*word));
     }
     s.compress(last_word(key)).finish()
 }

@@ -6,8 +6,10 @@ ghost use Rattle.std.specs.Prelude.{◌≡◌};
 ghost use Rattle.statistics.specs.Counts.{more_hit, more_miss, more_invalidate, more_of, more, reading};
 
 // The counts as they are kept.
+// Kept: two structs of the same fields, for the C interface: this one is the record that a caller lends, `CacheStatistics` what `redis_cache_counts` returns.
+// redis-rs has both, too.
 #[repr(C)]
-#[derive(Clone, Copy)]
+#[derive(Clone, Copy, PartialEq, Eq, Debug)]
 pub struct Statistics {
     pub hit: u64,
     pub miss: u64,
@@ -16,7 +18,7 @@ pub struct Statistics {
 
 // The counts as they are read.
 #[repr(C)]
-#[derive(Clone, Copy)]
+#[derive(Clone, Copy, PartialEq, Eq, Debug)]
 pub struct CacheStatistics {
     pub hit: u64,
     pub miss: u64,
@@ -64,11 +66,11 @@ impl Statistics {
     }
 }
 
-impl CacheStatistics {
-    // The counts at this moment.
-    pub fn from(value: Statistics) -> CacheStatistics
-        ensures { result ≡ reading value }
-    {
+// The counts at this moment.
+impl From<Statistics> for CacheStatistics {
+    ghost from_gives = { λ counts shown. shown ≡ reading counts };
+
+    fn from(value: Statistics) -> CacheStatistics {
         CacheStatistics {
             hit: value.hit,
             miss: value.miss,
@@ -78,6 +80,7 @@ impl CacheStatistics {
 }
 
 // So many more hits in the record that is lent.
+// Kept: functions by value and thin ones over the lent record are a rule of the project (docs/DECISIONS.md); so are the two below.
 pub fn increase_hit(counts: &mut Statistics, val: u64)
     ensures { counts.new ≡ more_hit counts.old val }
 {

@@ -4,7 +4,6 @@
 #![tactic(auto)]
 
 use std::io::{self, Read, Write};
-use trap_send::Sent;
 
 // The most bytes that are read.
 const MAX_INPUT: u64 = 65_537;
@@ -17,7 +16,7 @@ fn main(rt: HostRuntime) -> io::Result<()> {
     rt.reader().take(MAX_INPUT).read_to_end(&mut input)?;
     let mut out = [0; MAX_OUTPUT];
     match trap_send::send_bytes(input.as_slice(), &mut out) {
-        Sent::Front(n) => io::writer(&rt).write_all(&out[..n]),
-        Sent::Nothing => Ok(()),
+        Some(n) => io::writer(&rt).write_all(&out[..n]),
+        None => Ok(()),
     }
 }

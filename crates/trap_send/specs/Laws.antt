@@ -1,6 +1,6 @@
 -- What is written, one law for each path of the code: each cause of planning's own call, and that the empty cache is what setup leaves. Assumes nothing.
 -- Letters: as in Send.antt; g settings, a the arena's bytes, k where the commands stand, b whether it is a transaction.
-use Rattle.std.specs.Prelude.{◌≡◌, refl, Bool, true, false, ◌||◌, List, ℕ, ◌+◌, ◌≤◌, ◌<◌, ltb, length, replicate}
+use Rattle.std.specs.Prelude.{Ok, ◌≡◌, refl, Bool, true, false, ◌||◌, List, ℕ, ◌+◌, ◌≤◌, ◌<◌, ltb, length, replicate, Err, Option, None, Some, is_none}
 use Rattle.std.proofs.Common.{sym, ap, ap₂, ◌∙◌, subst, arith, ltb-false, lt-ltb, le-ltb}
 use Rattle.buffer.specs.Same.{Bytes}
 use Rattle.buffer.specs.Part.{put}
@@ -8,7 +8,7 @@ use Rattle.config.specs.Config.{checked, refused, settings_of}
 use Rattle.config.specs.declared.Settings.{Settings}
 use Rattle.call_record.specs.Record.{Command, transaction}
 use Rattle.call_record.specs.Check.{check_def}
-use Rattle.call_record.specs.declared.Checked.TheVariants.{Fine, Wrong}
+use Rattle.format.specs.Ends.{wrong}
 use Rattle.cursor.specs.At.{commands_of, CommandsHere, command_cursor, record_at}
 use Rattle.cursor.specs.declared.Commands.{Commands}
 use Rattle.cmd.specs.Laws.{Wrote}
@@ -17,13 +17,13 @@ use Rattle.arena.specs.Decode.{read_arena}
 use Rattle.planning.specs.Ask.{ask, any_late}
 use Rattle.sharded_lru.specs.Lent.{setup_now, Lent}
 use Rattle.sharded_lru.specs.Admit.{admitted, admits}
-use Rattle.sharded_lru.specs.declared.Admitted.TheVariants.{Admits, Refused}
+use Rattle.config.specs.Causes.{number}
+use Rattle.config.specs.declared.Cause.{Cause}
 use Rattle.planning_outcome.specs.Sizes.{all_sent}
 use Rattle.planning_send_len.specs.Wrapped.{start_bytes, end_bytes}
 use Rattle.trap_send.specs.Walk.{Fits}
 use Rattle.room.specs.Room.{spent, whole}
 use Rattle.planning_dry_pass.specs.Dry.{Planable}
-use Rattle.room.specs.declared.Room.{Room}
 use Rattle.single_calls.specs.Setup.{fresh_arena}
 use Rattle.cache_manager.specs.Pipeline.{recorded, admitted_to, plan_call}
 use Rattle.cache_manager.specs.Planned.{plan_bytes, send_bytes, send_now, late-refused, short-refused, all-written}
@@ -31,8 +31,6 @@ use Rattle.cache_manager.specs.Passed.{send-short}
 use Rattle.cache_manager.specs.Fit.{Fit, planable}
 use Rattle.cache_manager.specs.Records as paths
 use Rattle.trap_send.specs.Send.{Output, output, output_of, max_record, held, empty_cache, sends_with, Settles, Within}
-use Rattle.trap_send.specs.declared.Sent.{Sent}
-use Rattle.trap_send.specs.declared.Sent.TheVariants.{Front, Nothing}
 
 -- two plannings that come to the same settle alike
 pub settles-as : (x y : Bytes → Output) (z : Output) → ((d : Bytes) → x d ≡ y d) → Settles y z → Settles x z
@@ -43,8 +41,8 @@ pub settles-all : (x : Bytes → Output) (z : Output) → ((d : Bytes) → x d �
 settles-all x z p = record { room = 0; is = λ d h. sym (p d) }
 
 -- what is answered lies inside the send buffer
-pub front-within : (r : Sent) (n m : ℕ) → r ≡ Front m → Within r n → m ≤ n
-front-within r n m q w = subst (λ (x : Sent). Within x n) q w
+pub front-within : (r : Option ℕ) (n m : ℕ) → r ≡ Some m → Within r n → m ≤ n
+front-within r n m q w = subst (λ (x : Option ℕ). Within x n) q w
 
 -- ---- a record that is one
 
@@ -75,7 +73,7 @@ module _ (s f a : Bytes) (g : Settings) (k : Commands) (q : k ≡ command_cursor
     recorded_with d = output_of (recorded 0 0 s d f (held a n next) g rows (record_at s))
 
     -- cause 4
-    pub record-late : any_late g 0 (commands_of s k) ≡ true → Settles recorded_with (output Nothing f)
+    pub record-late : any_late g 0 (commands_of s k) ≡ true → Settles recorded_with (output None f)
     record-late l = settles-all _ _ (λ d. ap output_of (late-refused 0 0 s d f (held a n next) g rows (record_at s) (ap (any_late g 0) commands-are ∙ l)))
 
     module _ (b : Bool) (p : b ≡ transaction (record_at s)) (l : any_late g 0 (commands_of s k) ≡ false) where
@@ -91,9 +89,9 @@ module _ (s f a : Bytes) (g : Settings) (k : Commands) (q : k ≡ command_cursor
       plan_long = plan_bytes (setup_now g) rows 0 0 g (transaction (record_at s)) (record_at s).commands
 
       -- cause 5: no plan buffer helps where the send buffer is short
-      pub record-short : ltb (length f) (length (send_bytes (setup_now g) rows 0 0 g b (commands_of s k))) ≡ true → Settles recorded_with (output Nothing f)
+      pub record-short : ltb (length f) (length (send_bytes (setup_now g) rows 0 0 g b (commands_of s k))) ≡ true → Settles recorded_with (output None f)
       record-short x =
-          settles-all recorded_with (output Nothing f)
+          settles-all recorded_with (output None f)
           (λ d.
           ap output_of
           (short-refused 0 0 s d f (held a n next) g rows (record_at s) on-time
@@ -102,7 +100,7 @@ module _ (s f a : Bytes) (g : Settings) (k : Commands) (q : k ≡ command_cursor
 
       -- it is written
       pub record-done : ltb (length f) (length (send_bytes (setup_now g) rows 0 0 g b (commands_of s k))) ≡ false
-          → (f' : Bytes) (m : ℕ) → Wrote f 0 (send_bytes (setup_now g) rows 0 0 g b (commands_of s k)) f' m → Settles recorded_with (output (Front m) f')
+          → (f' : Bytes) (m : ℕ) → Wrote f 0 (send_bytes (setup_now g) rows 0 0 g b (commands_of s k)) f' m → Settles recorded_with (output (Some m) f')
       record-done x f' m w =
           record {
             room = length plan_long;
@@ -116,22 +114,22 @@ module _ (s f a : Bytes) (g : Settings) (k : Commands) (q : k ≡ command_cursor
                 let z = all-written 0 0 s d f (held a n next) g rows (record_at s) on-time
                 (or_no (ltb (length d) (length plan_long)) (ltb (length f) (length S)) (le-ltb (length d) (length plan_long) h)
                 (ap (λ (z : Bytes). ltb (length f) (length z)) y ∙ x)) in
-                ap₂ (λ (q : ℕ) (z : Bytes). output (Front q) z) i v ∙ sym (ap output_of z);
+                ap₂ (λ (q : ℕ) (z : Bytes). output (Some q) z) i v ∙ sym (ap output_of z);
           }
 
 -- ---- the room that was counted down
 
-module _ (f a : Bytes) (g : Settings) (b : Bool) (cs : List Command) (w : ℕ) (x z : Room) (i : w ≡ length (start_bytes b) + length (end_bytes b))
+module _ (f a : Bytes) (g : Settings) (b : Bool) (cs : List Command) (w : ℕ) (x z : Option ℕ) (i : w ≡ length (start_bytes b) + length (end_bytes b))
     (u : x ≡ spent (whole (length f)) w) (j : (rows : ℕ → Row) → Lent g a rows → z ≡ spent x (length (all_sent (setup_now g) rows 0 0 (ask g 0) g.mode cs)))
   where
     -- is short exactly if the send buffer is
-    pub room_says : (rows : ℕ → Row) → Lent g a rows → z.short ≡ ltb (length f) (length (send_bytes (setup_now g) rows 0 0 g b cs))
+    pub room_says : (rows : ℕ → Row) → Lent g a rows → is_none z ≡ ltb (length f) (length (send_bytes (setup_now g) rows 0 0 g b cs))
     room_says rows o =
-        ap (λ (r : Room). r.short) (j rows o ∙ ap (λ (r : Room). spent r (length (all_sent (setup_now g) rows 0 0 (ask g 0) g.mode cs))) u)
+        ap (λ (r : Option ℕ). is_none r) (j rows o ∙ ap (λ (r : Option ℕ). spent r (length (all_sent (setup_now g) rows 0 0 (ask g 0) g.mode cs))) u)
         ∙ send-short (setup_now g) rows 0 0 g b cs (length f) w i
 
     -- so what is sent fits where the room was not short
-    pub room_fits : z.short ≡ false → Fits g a (λ rows. send_bytes (setup_now g) rows 0 0 g b cs) 0 (length f)
+    pub room_fits : is_none z ≡ false → Fits g a (λ rows. send_bytes (setup_now g) rows 0 0 g b cs) 0 (length f)
     room_fits q rows o =
         let S : Bytes = send_bytes (setup_now g) rows 0 0 g b cs in
         let h : length S ≤ length f = ltb-false (length f) (length S) (sym (room_says rows o) ∙ q) in
@@ -145,11 +143,11 @@ module _ (s f : Bytes) (a : Bytes) (g : Settings) (rows : ℕ → Row) (n : Coun
   admitted_with d = output_of (admitted_to 0 0 s d f (held a n next) g rows)
 
   -- cause 2
-  pub record-wrong : (o : ℕ) → check_def s ≡ Wrong o → Settles admitted_with (output Nothing f)
+  pub record-wrong : (o : ℕ) → check_def s ≡ wrong o → Settles admitted_with (output None f)
   record-wrong o q = settles-all _ _ (λ d. ap output_of (paths.bad-record 0 0 s d f (held a n next) g rows (omega arith) o q))
 
   -- a record that is one is planned
-  pub record-fine : check_def s ≡ Fine → (z : Output) → Settles (λ d. output_of (recorded 0 0 s d f (held a n next) g rows (record_at s))) z
+  pub record-fine : check_def s ≡ Ok tt → (z : Output) → Settles (λ d. output_of (recorded 0 0 s d f (held a n next) g rows (record_at s))) z
       → Settles admitted_with z
   record-fine q z w = settles-as _ _ z (λ d. ap output_of (paths.good-record 0 0 s d f (held a n next) g rows (omega arith) q)) w
 
@@ -167,7 +165,7 @@ fresh-zeros a q = q ∙ ap (λ (n : ℕ). replicate {A = ℕ} n 0) (sym (ap leng
 
 module _ (s f : Bytes) where
   -- a record over 65,536 bytes
-  pub record-long : max_record < length s → Settles (sends_with s f) (output Nothing f)
+  pub record-long : max_record < length s → Settles (sends_with s f) (output None f)
   unfolding sends_with
   record-long l = settles-all _ _ (λ d. rw (lt-ltb max_record (length s) l))
 
@@ -178,12 +176,12 @@ module _ (s f : Bytes) where
     planned-is d = rw (le-ltb max_record (length s) l)
 
     -- on an arena that is the empty cache's: causes 1 and 9
-    pub cache-refused : (a : Bytes) → a ≡ empty_cache.arena → (n : ℕ) → admitted 4 0 1800000 a ≡ Refused n → Settles (sends_with s f) (output Nothing f)
-    cache-refused a e n q =
-        settles-all _ _ (λ d. planned-is d ∙ ap output_of (paths.call-refused 4 0 1800000 0 0 s d f empty_cache n (ap (admitted 4 0 1800000) (sym e) ∙ q)))
+    pub cache-refused : (a : Bytes) → a ≡ empty_cache.arena → (cause : Cause) → admitted 4 0 1800000 a ≡ Err cause → Settles (sends_with s f) (output None f)
+    cache-refused a e cause q =
+        settles-all _ _ (λ d. planned-is d ∙ ap output_of (paths.call-refused 4 0 1800000 0 0 s d f empty_cache cause (ap (admitted 4 0 1800000) (sym e) ∙ q)))
 
     -- admitted: what a planning of these rows settles
-    pub cache-admitted : (a : Bytes) → a ≡ empty_cache.arena → (g : Settings) → admitted 4 0 1800000 a ≡ Admits g → (z : Output)
+    pub cache-admitted : (a : Bytes) → a ≡ empty_cache.arena → (g : Settings) → admitted 4 0 1800000 a ≡ Ok g → (z : Output)
         → ((rows : ℕ → Row) (n : Counts) (next : ℕ) → Lent g a rows → Settles (λ d. output_of (admitted_to 0 0 s d f (held a n next) g rows)) z)
         → Settles (sends_with s f) z
     cache-admitted a e g q z w =

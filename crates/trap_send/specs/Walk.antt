@@ -1,7 +1,7 @@
 -- The two walks over the commands, on an arena that stays as it is: what is left to send comes to the whole. Assumes nothing.
 -- Letters: g settings, a the arena's bytes, s the record's, t clock, e epoch, m commands left at `at`, q room, d and f the send buffer's bytes, b whether it is
 -- a transaction.
-use Rattle.std.specs.Prelude.{◌≡◌, Bool, List, [], ◌++◌, ℕ, ◌+◌, ◌≤◌, length}
+use Rattle.std.specs.Prelude.{Option, ◌≡◌, Bool, List, [], ◌++◌, ℕ, ◌+◌, ◌≤◌, length}
 use Rattle.std.proofs.Math.Path.{refl}
 use Rattle.std.proofs.Common.{sym, ap, ◌∙◌, arith, length-append}
 use Rattle.buffer.specs.Same.{Bytes}
@@ -19,7 +19,6 @@ use Rattle.planning_send_len.specs.Wrapped.{start_bytes, end_bytes}
 use Rattle.cache_manager.specs.Planned.{send_bytes}
 use Rattle.room.specs.Room.{spent, spent-none, spent-more}
 use Rattle.planning_dry_pass.specs.Dry.{Planable, planable-next}
-use Rattle.room.specs.declared.Room.{Room}
 use Rattle.planning.specs.Ask.{ask}
 
 -- ---- what is written by the rows that the arena holds
@@ -55,15 +54,15 @@ module _ (g : Settings) (a s : Bytes) (t e : ℕ) where
   module _ (m₀ at₀ : ℕ) where
     -- ---- room counted down
 
-    pub record Counted (q₀ : Room) (m at : ℕ) (q : Room) : Type 0 where
+    pub record Counted (q₀ : Option ℕ) (m at : ℕ) (q : Option ℕ) : Type 0 where
       pub ahead : Planable g t s m at
       pub left : (rows : ℕ → Row) → Lent g a rows → spent q₀ (length (sent_at m₀ at₀ rows)) ≡ spent q (length (sent_at m at rows))
 
-    pub counted_start : (q₀ : Room) → Planable g t s m₀ at₀ → Counted q₀ m₀ at₀ q₀
+    pub counted_start : (q₀ : Option ℕ) → Planable g t s m₀ at₀ → Counted q₀ m₀ at₀ q₀
     counted_start q₀ w = record { ahead = w; left = λ rows o. refl }
 
     -- one command further
-    pub counted_next : (q₀ : Room) (m n at x : ℕ) (q : Room) (h : Head) (z : ℕ) (k : m ≡ n + 1) (d : h ≡ head_at s at) (f : x ≡ command_next s at)
+    pub counted_next : (q₀ : Option ℕ) (m n at x : ℕ) (q : Option ℕ) (h : Head) (z : ℕ) (k : m ≡ n + 1) (d : h ≡ head_at s at) (f : x ≡ command_next s at)
         → ((rows : ℕ → Row) → Lent g a rows → z ≡ length (first m n at x h k d f rows)) → Counted q₀ m at q → Counted q₀ n x (spent q z)
     counted_next q₀ m n at x q h z k d f is w =
         record {
@@ -76,7 +75,7 @@ module _ (g : Settings) (a s : Bytes) (t e : ℕ) where
         }
 
     -- none is left
-    pub counted-end : (q₀ : Room) (m at : ℕ) (q : Room) → m ≡ 0 → Counted q₀ m at q → (rows : ℕ → Row) → Lent g a rows
+    pub counted-end : (q₀ : Option ℕ) (m at : ℕ) (q : Option ℕ) → m ≡ 0 → Counted q₀ m at q → (rows : ℕ → Row) → Lent g a rows
         → q ≡ spent q₀ (length (sent_at m₀ at₀ rows))
     counted-end q₀ m at q z w rows o = sym (w.left rows o ∙ spent-none q (length (sent_at m at rows)) (ap length (sent-end m at z rows)))
 

@@ -3,10 +3,9 @@
 // every key waits. specs/Send.antt says what is written.
 #![tactic(auto)]
 
-ghost use Rattle.std.specs.Prelude.{◌≡◌, ℕ, ◌≤◌, length};
+ghost use Rattle.std.specs.Prelude.{◌≡◌, ℕ, ◌≤◌, Ok, length};
 ghost use Rattle.config.specs.Limits.{max_bytes};
 ghost use Rattle.call_record.specs.Check.{check_def};
-ghost use Rattle.call_record.specs.declared.Checked.TheVariants.{Fine};
 ghost use Rattle.cursor.specs.At.{command_of, commands_of, record_at};
 ghost use Rattle.book.specs.Book.{Row, Counts};
 ghost use Rattle.sharded_lru.specs.Lent.{setup_now, Lent, Arena};
@@ -20,14 +19,11 @@ ghost use Rattle.cache_manager.specs.Planned.{send_bytes};
 ghost use Rattle.trap_send.specs.Send.{max_record, held, output, output_of, Settles, sends_with, Within};
 ghost use Rattle.planning.specs.Ask.{ask};
 
-use call_record::Checked;
-use config::{Now, Settings};
+use config::{CacheConfig, Now, Settings};
 use cursor::{Commands, Head};
 use planning_ask::Asked;
 use planning_outcome::{CacheableCommand, CachingResult, PrepCacheItem, Served};
 use planning_places::Source;
-use room::Room;
-use sharded_lru::Admitted;
 
 // The longest record that is planned.
 pub const MAX_RECORD: usize = 65_536;
@@ -38,14 +34,6 @@ const SIZE: u64 = 4;
 const MODE: u64 = 0;
 
 const TTL: u64 = 1_800_000;
-
-// What is sent.
-#[derive(Clone, Copy)]
-pub enum Sent {
-    // So many bytes from the buffer's beginning.
-    Front(usize),
-    Nothing,
-}
 
 // How long that is which is sent for a command.
 fn command_len(bytes: &[u8], head: Head, arena: &[u8], g: Settings, when: Now) -> usize
@@ -130,19 +118,24 @@ fn write_command(
 }
 
 // The room that is left in a buffer once what is sent for the commands is taken.
-fn send_room(bytes: &[u8], k: Commands, arena: &[u8], g: Settings, when: Now, room: Room) -> Room
+fn send_room(
+    bytes: &[u8],
+    k: Commands,
+    arena: &[u8],
+    g: Settings,
+    when: Now,
+    room: Option<usize>,
+) -> Option<usize>
     requires { Planable g when.clock bytes.now k.left k.at × (length bytes.now ≤ max_bytes) × Arena g arena.now }
     ensures { (rows : ℕ → Row) → Lent g arena.now rows →
         result ≡ spent room (length (all_sent (setup_now g) rows when.clock when.epoch (ask g when.clock) g.mode (commands_of bytes.now k))) }
 {
     let mut at = k.at;
-    let mut left = k.left;
     let mut q = room;
-    while left > 0 {
+    for _ in 0..k.left {
         let head = cursor::head_at(bytes, at);
         q = room::spend(q, command_len(bytes, head, arena, g, when));
         at = cursor::args_end(bytes, head.args);
-        left -= 1;
     }
     q
 }
@@ -166,13 +159,11 @@ fn write_commands(
         out.old to out.new result }
 {
     let mut at = k.at;
-    let mut left = k.left;
     let mut n = to;
-    while left > 0 {
+    for _ in 0..k.left {
         let head = cursor::head_at(bytes, at);
         n = write_command(out, n, bytes, head, arena, g, when);
         at = cursor::args_end(bytes, head.args);
-        left -= 1;
     }
     n
 }
@@ -199,9 +190,9 @@ fn write_pipeline(
     planning_send_len::write_end(out, to, transaction)
 }
 
-// A record that is one.
-fn send_record(bytes: &[u8], out: &mut [u8], arena: &[u8], g: Settings) -> Sent
-    requires { Arena g arena.now × (length bytes.now ≤ max_bytes) × (check_def bytes.now ≡ Fine) × Blank g arena.now }
+// A record that is one. The answer here and below is how many bytes are sent from the buffer's beginning.
+fn send_record(bytes: &[u8], out: &mut [u8], arena: &[u8], g: Settings) -> Option<usize>
+    requires { Arena g arena.now × (length bytes.now ≤ max_bytes) × (check_def bytes.now ≡ Ok tt) × Blank g arena.now }
     ensures { ((rows : ℕ → Row) (n : Counts) (next : ℕ) → Lent g arena.now rows →
         Settles (λ d. output_of (recorded 0 0 bytes.now d out.old (held arena.now n next) g rows
         (record_at bytes.now))) (output result out.new))
@@ -209,24 +200,17 @@ fn send_record(bytes: &[u8], out: &mut [u8], arena: &[u8], g: Settings) -> Sent
 {
     let k = cursor::commands_of(bytes);
     if planning_ask::any_late(bytes, k, g, 0) {
-        return Sent::Nothing;
+        return None;
     }
     let transaction = cursor::is_transaction(bytes);
     let start = Now { clock: 0, epoch: 0 };
-    let whole = Room {
-        left: out.len(),
-        short: false,
-    };
-    let room = room::spend(whole, planning_send_len::wrap_len(transaction));
-    let rest = send_room(bytes, k, arena, g, start, room);
-    if rest.short {
-        return Sent::Nothing;
-    }
-    Sent::Front(write_pipeline(out, bytes, k, transaction, arena, g, start))
+    let room = room::spend(Some(out.len()), planning_send_len::wrap_len(transaction));
+    send_room(bytes, k, arena, g, start, room)?;
+    Some(write_pipeline(out, bytes, k, transaction, arena, g, start))
 }
 
 // A record of which it is known that it is not too long, on a cache.
-fn send_admitted(bytes: &[u8], out: &mut [u8], arena: &[u8], g: Settings) -> Sent
+fn send_admitted(bytes: &[u8], out: &mut [u8], arena: &[u8], g: Settings) -> Option<usize>
     requires { Arena g arena.now × (length bytes.now ≤ max_record) × Blank g arena.now }
     ensures { ((rows : ℕ → Row) (n : Counts) (next : ℕ) → Lent g arena.now rows →
         Settles (λ d. output_of (admitted_to 0 0 bytes.now d out.old (held arena.now n next) g rows))
@@ -234,22 +218,27 @@ fn send_admitted(bytes: &[u8], out: &mut [u8], arena: &[u8], g: Settings) -> Sen
         × Within result (length out.old) }
 {
     match call_record::check(bytes) {
-        Checked::Wrong(_) => Sent::Nothing,
-        Checked::Fine => send_record(bytes, out, arena, g),
+        Err(_) => None,
+        Ok(()) => send_record(bytes, out, arena, g),
     }
 }
 
 // Writes what planning sends for the record on an empty cache; or nothing, where planning refuses, the record is too long or the buffer too short for it.
-pub fn send_bytes(bytes: &[u8], out: &mut [u8]) -> Sent
+pub fn send_bytes(bytes: &[u8], out: &mut [u8]) -> Option<usize>
     ensures { Settles (sends_with bytes.now out.old) (output result out.new) × Within result (length out.old) }
 {
     if MAX_RECORD < bytes.len() {
-        return Sent::Nothing;
+        return None;
     }
     let mut arena = [0u8; 64];
-    single_calls::setup(&mut arena, SIZE, MODE, TTL);
-    match sharded_lru::admit(&arena, SIZE, MODE, TTL) {
-        Admitted::Refused(_) => Sent::Nothing,
-        Admitted::Admits(g) => send_admitted(bytes, out, &arena, g),
+    let cache_config = CacheConfig {
+        size: SIZE,
+        mode: MODE,
+        ttl: TTL,
+    };
+    let _ = single_calls::setup(&mut arena, cache_config);
+    match sharded_lru::admit(&arena, cache_config) {
+        Err(_) => None,
+        Ok(g) => send_admitted(bytes, out, &arena, g),
     }
 }

@@ -9,12 +9,8 @@ pub fn line_end(s: &[u8], at: usize) -> usize
     requires { at ≤ length s.now }
     ensures { LineEnds s.now at result }
 {
-    let mut i = at;
-    while i < s.len() {
-        if s[i] == b'\n' {
-            return i;
-        }
-        i += 1;
+    match s[at..].iter().position(|&byte| byte == b'\n') {
+        Some(n) => at + n,
+        None => s.len(),
     }
-    i
 }

@@ -9,8 +9,9 @@ use Rattle.buffer.specs.Field.{le32, le64}
 use Rattle.buffer.specs.Ascii.{ascii}
 use Rattle.config.specs.Config.{checked}
 use Rattle.config.specs.declared.CacheMode.TheVariants.{All}
-use Rattle.config.specs.declared.CheckedConfig.{CheckedConfig}
-use Rattle.config.specs.declared.CheckedConfig.TheVariants.{Fine}
+use Rattle.std.specs.Prelude.{Ok, Result}
+use Rattle.config.specs.declared.Cause.{Cause}
+use Rattle.config.specs.declared.Settings.{Settings}
 use Rattle.decimal.specs.Digits.{digits}
 use Rattle.decimal.specs.Cases.{DigitRanges, digit-ranges}
 use Rattle.resp3.specs.Value.{depth, encode}
@@ -23,15 +24,14 @@ use Rattle.single_calls.specs.Single.{Return, single_call}
 use Rattle.single_calls.specs.SingleCases as singles
 use Rattle.cache_manager.specs.Pipeline.{Left, wrote, plan_call}
 use Rattle.cache_manager.specs.Cases.{call-case-defs, argument, command, record_of, plan_head}
-use Rattle.caching_cmd.specs.declared.ResolveAnswer.TheVariants.{Answered}
-use Rattle.caching_cmd.specs.Call.{ResolveReturn, returning, resolve_call}
+use Rattle.caching_cmd.specs.Call.{ResolveReturn, answered_with, returning, resolve_call}
 use Rattle.caching_cmd.specs.Cases.{case-defs}
 
 -- ---- words of the table
 
 -- so many shards of so many keys and bytes
-abbrev shards_of : ℕ → ℕ → ℕ → CheckedConfig
-shards_of shards keys bytes = Fine (record { mode = All; ttl = 0; shards = shards; keys = keys; bytes = bytes })
+abbrev shards_of : ℕ → ℕ → ℕ → Result Settings Cause
+shards_of shards keys bytes = Ok (record { mode = All; ttl = 0; shards = shards; keys = keys; bytes = bytes })
 
 -- a fresh cache of n bytes
 abbrev fresh_in : ℕ → Held
@@ -66,7 +66,7 @@ with_pttl replies = resolved (plan_head 0 1 ++ missing 3 "k") replies 11 76
 
 abbrev kept_until : ℕ → ResolveReturn
 kept_until expiry =
-    returning (Answered 11 0) (ascii "*1\r\n$1\r\nu\r\n")
+    returning (answered_with 11 0) (ascii "*1\r\n$1\r\nu\r\n")
     (record {
       arena = le32 1 ++ (le32 60 ++ (zeros 8 ++ (le32 1 ++ (le32 1 ++ (le64 3 ++ (le64 expiry ++ (le32 27 ++ (zeros 4 ++ (ascii "k"
           ++ (le32 4 ++ (le32 7 ++ (zeros 8 ++ ascii "GETk$1\r\nu\r\n"))))))))))));
@@ -98,7 +98,7 @@ pub record Table : Type 0 where
         held = fresh_in 80;
       }
   pub json-mget-k-answer : resolved (plan_head 0 1 ++ node 0 0 [] []) "*1\r\n-ERR few\r\n" 14 80
-      ≡ returning (Answered 14 0) (ascii "*1\r\n-ERR few\r\n") (fresh_in 80)
+      ≡ returning (answered_with 14 0) (ascii "*1\r\n-ERR few\r\n") (fresh_in 80)
   -- `GET` of a key of no bytes is asked for, and missing
   pub empty-key : planned 2 (argument (ascii "GET") ++ argument []) 31 39
       ≡ record {
@@ -121,10 +121,10 @@ pub record Table : Type 0 where
   pub pttl-minus-1 : with_pttl "*2\r\n:-1\r\n$1\r\nu\r\n" ≡ kept_until 500
   -- an array one element too long for two waiting keys uses up a third PTTL: the next command is handed the fourth
   pub three-taken : resolved (several 2 (missing 5 "a" ++ missing 5 "b")) "*5\r\n*3\r\n$1\r\nu\r\n$1\r\nv\r\n$1\r\nw\r\n:1\r\n:2\r\n:3\r\n:4\r\n" 26 64
-      ≡ returning (Answered 26 2) (ascii "*2\r\n*2\r\n$1\r\nu\r\n$1\r\nv\r\n:4\r\n") (fresh_in 64)
+      ≡ returning (answered_with 26 2) (ascii "*2\r\n*2\r\n$1\r\nu\r\n$1\r\nv\r\n:4\r\n") (fresh_in 64)
   -- an array one element too short leaves the third place null; its PTTL is left for the next command
   pub third-null : resolved (several 3 (missing 5 "a" ++ (missing 5 "b" ++ missing 5 "c"))) "*4\r\n*2\r\n$1\r\nu\r\n$1\r\nv\r\n:1\r\n:2\r\n:3\r\n" 29 64
-      ≡ returning (Answered 29 2) (ascii "*2\r\n*3\r\n$1\r\nu\r\n$1\r\nv\r\n_\r\n:3\r\n") (fresh_in 64)
+      ≡ returning (answered_with 29 2) (ascii "*2\r\n*3\r\n$1\r\nu\r\n$1\r\nv\r\n_\r\n:3\r\n") (fresh_in 64)
   -- 9999 has four digits, 10000 five
   pub four-digits : length (digits 9999) ≡ 4
   pub five-digits : length (digits 10000) ≡ 5

@@ -15,10 +15,7 @@ abbrev pub among : ℕ → ℕ → ℕ
 among m i = i - (i - m)
 
 abbrev pub invariant-loop-i : goal.invariant-loop-i
-invariant-loop-i l =
-    (l.i ≤ l.n) × (l.at ≡ nth (next_in l.h l.f l.s) l.i l.first) × (l.end ≡ nth (next_in l.h l.f l.s) (among l.m l.i) l.first)
-    × Chaining (mark_of l.top) l.top (key_in l.h l.s) (next_in l.h l.f l.s) l.first l.m l.last l.prev l.place (among l.m l.i) × Apart (keys_from l.h l.f l.s l.first) l.m l.i
+invariant-loop-i g l =
+    (l.i ≤ l.n) × (l.at ≡ nth (next_in g.T.Thing.HEAD g.T.Thing.REST l.s) l.i l.first) × (l.end ≡ nth (next_in g.T.Thing.HEAD g.T.Thing.REST l.s) (among l.m l.i) l.first)
+    × Chaining (mark_of l.top) l.top (key_in g.T.Thing.HEAD l.s) (next_in g.T.Thing.HEAD g.T.Thing.REST l.s) l.first l.m l.last l.prev l.place (among l.m l.i) × Apart (keys_from g.T.Thing.HEAD g.T.Thing.REST l.s l.first) l.m l.i
     × (length l.last ≡ length l.initial.last) × (length l.prev ≡ length l.initial.prev) × (length l.place ≡ length l.initial.place)
-
-abbrev pub decreases-loop-i : goal.decreases-loop-i
-decreases-loop-i l = l.n - l.i

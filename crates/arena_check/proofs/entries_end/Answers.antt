@@ -8,43 +8,43 @@ use Rattle.arena_check.proofs.Laws.{entry-within}
 use Rattle.arena_check.proofs.Walks.{walk_start, walk-done, walk_inside, walk-bad, walk-next, walk-failed, walk-answer}
 use Rattle.arena_check.proofs.entries_end.Goals as goal
 
-pub loop-i-init : goal.loop-i-init
-loop-i-init c =
+pub loop-init : goal.loop-init
+loop-init c =
     let a = c.args in
     walk_start (entry_next a.s.now) (entry_ok is_value a.s.now a.end) a.end a.first a.n (omega arith)
 
 pub entry_ok-requires : goal.entry_ok-requires
-entry_ok-requires c = let w = c.loop-i.invariant in omega (arith, w.inside)
+entry_ok-requires c = let w = c.loop.invariant in omega (arith, w.inside)
 
 pub returns-then-not-entry_ok : goal.returns-then-not-entry_ok
 unfolding entries_end
 returns-then-not-entry_ok c =
     let a = c.args in
-    let l = c.loop-i in
+    let l = c.loop in
     sym (walk-failed (command_at a.s.now) (entry_next a.s.now) (entry_ok is_value a.s.now a.end) a.first a.n
-    (walk-bad (entry_next a.s.now) (entry_ok is_value a.s.now a.end) a.end a.first a.n l.at l.i l.invariant (omega arith)
+    (walk-bad (entry_next a.s.now) (entry_ok is_value a.s.now a.end) a.end a.first a.n l.at l.counter l.invariant (omega arith)
     (sym c.entry_ok.ensures ∙ c.if-not-entry_ok.true)))
 
 pub next_place-at-requires : goal.next_place-at-requires
 next_place-at-requires c =
     let a = c.args in
-    let l = c.loop-i in
+    let l = c.loop in
     let q = entry-within is_value a.s.now a.end l.at (sym c.entry_ok.ensures ∙ c.if-not-entry_ok.false) in
     omega arith
 
-pub loop-i-preserved : goal.loop-i-preserved
-loop-i-preserved c =
+pub loop-preserved : goal.loop-preserved
+loop-preserved c =
     let a = c.args in
-    let l = c.loop-i in
+    let l = c.loop in
     let q = sym c.entry_ok.ensures ∙ c.if-not-entry_ok.false in
-    walk-next (entry_next a.s.now) (entry_ok is_value a.s.now a.end) a.end a.first a.n l.at l.i l.invariant (omega arith) q
+    walk-next (entry_next a.s.now) (entry_ok is_value a.s.now a.end) a.end a.first a.n l.at l.counter l.invariant (omega arith) q
     (entry-within is_value a.s.now a.end l.at q) _ c.next_place-at.ensures
 
 pub distinct-requires : goal.distinct-requires
 distinct-requires c =
     let a = c.args in
-    let l = c.loop-i in
-    let w = walk_inside (entry_next a.s.now) (entry_ok is_value a.s.now a.end) a.end a.first a.n l.at l.i l.invariant (omega arith) in
+    let l = c.loop in
+    let w = walk_inside (entry_next a.s.now) (entry_ok is_value a.s.now a.end) a.end a.first a.n l.at l.counter l.invariant (omega arith) in
     ((λ k q. let p = w k q in omega arith), omega arith, omega arith, omega arith)
 
 pub returns-then-not-distinct : goal.returns-then-not-distinct
@@ -58,7 +58,7 @@ pub returns : goal.returns
 unfolding entries_end
 returns c =
     let a = c.args in
-    let l = c.loop-i in
+    let l = c.loop in
     sym (walk-answer (command_at a.s.now) (entry_next a.s.now) (entry_ok is_value a.s.now a.end) a.first
     c.distinct.result true a.n c.if-not-distinct.false c.distinct.ensures
-    ∙ walk-done (entry_next a.s.now) (entry_ok is_value a.s.now a.end) a.end a.first a.n l.at l.i l.invariant (omega arith))
+    ∙ walk-done (entry_next a.s.now) (entry_ok is_value a.s.now a.end) a.end a.first a.n l.at l.counter l.invariant (omega arith))

@@ -7,10 +7,10 @@ use Rattle.arena_check.proofs.Chains.{Left}
 use Rattle.arena_check.proofs.in_chain.Given as goal
 
 abbrev pub invariant-loop-c : goal.invariant-loop-c
-invariant-loop-c l =
+invariant-loop-c g l =
     (l.c ≤ l.last)
-    × ((mark : Bytes → ℕ) (keys : ℕ → Bytes) (k : ℕ) → Chains mark keys (key_in l.h l.s) l.place l.prev k → Latest mark keys (mark (key_in l.h l.s l.at)) l.last k
-    → Left mark keys (key_in l.h l.s l.at) k l.c)
+    × ((mark : Bytes → ℕ) (keys : ℕ → Bytes) (k : ℕ) → Chains mark keys (key_in g.T.Thing.HEAD l.s) l.place l.prev k → Latest mark keys (mark (key_in g.T.Thing.HEAD l.s l.at)) l.last k
+    → Left mark keys (key_in g.T.Thing.HEAD l.s l.at) k l.c)
 
 abbrev pub decreases-loop-c : goal.decreases-loop-c
-decreases-loop-c l = l.c
+decreases-loop-c g l = l.c

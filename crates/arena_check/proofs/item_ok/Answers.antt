@@ -51,7 +51,7 @@ returns c =
     c.requires.4
     c.home_of.ensures
     (eq-eqb _ a.shard c.if-home_of-shard.false) in
-    ends_read a.s.now a.at _ _ _ _ c.read_u32-k.ensures
+    c.eq.ensures ∙ ends_read a.s.now a.at _ _ _ _ c.read_u32-k.ensures
     c.read_u32-n.ensures c.next_place-next.ensures c.entries_end.ensures
     ∙ item-rest is_value (home_in a.shards) a.s.now a.shard a.end a.at (omega arith) (omega arith)
     (zero-read 4 a.s.now (a.at + 28) _ (omega arith) c.read_u32.ensures

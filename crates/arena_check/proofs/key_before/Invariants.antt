@@ -6,10 +6,7 @@ use Rattle.arena_check.specs.Walk.{nth, before}
 use Rattle.arena_check.specs.Check.{key_in, next_in}
 use Rattle.arena_check.proofs.key_before.Given as goal
 
-abbrev pub invariant-loop-k : goal.invariant-loop-k
-invariant-loop-k l =
-    (l.k ≤ l.n) × (l.p ≡ nth (next_in l.h l.f l.s) l.k l.from)
-    × (before (key_in l.h l.s) (next_in l.h l.f l.s) l.n l.from l.at ≡ before (key_in l.h l.s) (next_in l.h l.f l.s) (l.n - l.k) l.p l.at)
-
-abbrev pub decreases-loop-k : goal.decreases-loop-k
-decreases-loop-k l = l.n - l.k
+abbrev pub invariant-loop : goal.invariant-loop
+invariant-loop g l =
+    (l.counter ≤ l.n) × (l.p ≡ nth (next_in g.T.Thing.HEAD g.T.Thing.REST l.s) l.counter l.from)
+    × (before (key_in g.T.Thing.HEAD l.s) (next_in g.T.Thing.HEAD g.T.Thing.REST l.s) l.n l.from l.at ≡ before (key_in g.T.Thing.HEAD l.s) (next_in g.T.Thing.HEAD g.T.Thing.REST l.s) (l.n - l.counter) l.p l.at)

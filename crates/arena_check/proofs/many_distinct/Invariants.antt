@@ -7,8 +7,8 @@ use Rattle.arena_check.specs.Chain.{keys_from, Apart}
 use Rattle.arena_check.proofs.many_distinct.Given as goal
 
 abbrev pub invariant-loop-left : goal.invariant-loop-left
-invariant-loop-left l =
-    (l.left ≤ l.n) × (l.at ≡ nth (next_in l.h l.f l.s) (l.n - l.left) l.first) × Apart (keys_from l.h l.f l.s l.first) (l.n - l.left) l.n
+invariant-loop-left g l =
+    (l.left ≤ l.n) × (l.at ≡ nth (next_in g.T.Thing.HEAD g.T.Thing.REST l.s) (l.n - l.left) l.first) × Apart (keys_from g.T.Thing.HEAD g.T.Thing.REST l.s l.first) (l.n - l.left) l.n
 
 abbrev pub decreases-loop-left : goal.decreases-loop-left
-decreases-loop-left l = l.left
+decreases-loop-left g l = l.left

@@ -36,7 +36,7 @@ returns-then-not-all_zero c =
 pub returns : goal.returns
 returns c =
     let a = c.args in
-    shard-items is_value (home_in a.shards) a.keys a.s.now a.shard (omega arith) (omega arith)
+    c.eq.ensures ∙ shard-items is_value (home_in a.shards) a.keys a.s.now a.shard (omega arith) (omega arith)
     (zero-read 8 a.s.now 8 _ (omega arith) c.read_u64.ensures ∙ eq-eqb _ 0
     c.if-read_u64-ne0.false) _ (ap (λ (i : ℕ). 16 + i) c.read_u32.ensures) _ _
     (rest_read a.s.now _ _ c.all_zero.ensures ∙ c.if-not-all_zero.false)

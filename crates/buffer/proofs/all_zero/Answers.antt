@@ -1,27 +1,22 @@
--- `buffer::all_zero` meets its contract. The loop's invariant: the test of the range is the test of what is left. Assumes nothing.
-use mathlib.Core.Path.{refl, sym, ◌∙◌}
-use Prim.Native.Nat.{◌+◌}
-use native.Mathlib.Omega.{arith}
-use borrow.Author.Tests.{eq-eqb, ne_eqb}
-use Rattle.buffer.proofs.Tests.{zero-block}
+-- `buffer::all_zero` meets its contract: the blocks and then the rest are tested. Assumes nothing.
+use Rattle.std.proofs.Common.{◌∙◌, rules, tests}
+use Rattle.std.proofs.lemmas.Iterator.{YieldsList-from_slice}
+use Rattle.std.proofs.lemmas.Iterator.Search.{all_from_yields_List}
+use Rattle.buffer.specs.Part.{part}
+use Rattle.buffer.specs.Zero.{all_zero}
+use Rattle.buffer.proofs.Tests.{blocks_tested}
 use Rattle.buffer.proofs.all_zero.Goals as goal
 
-pub loop-i-init : goal.loop-i-init
-loop-i-init c = (omega arith, refl)
+pub returns-then-all : goal.returns-then-all
+unfolding part
+returns-then-all c =
+    let k = c.as_chunks.ensures in
+    let e = all_from_yields_List all_zero _ _ c.all.result c.all.ensures.ran (YieldsList-from_slice _ c.iter.ensures.rest) (λ x b q k. search (rules, tests)) in
+    c.only_zeros.ensures ∙ blocks_tested 64 _ _ _ k.front k.back e c.if-all.true
 
-pub returns-then-or_range-ne0 : goal.returns-then-or_range-ne0
-returns-then-or_range-ne0 c =
-    let a = c.args in
-    let l = c.loop-i in
-    sym (l.invariant.1 ∙ zero-block a.s.now l.i (l.i + 64) a.to (omega arith) (omega arith) c.or_range.ensures (ne_eqb _ 0 c.if-or_range-ne0.true))
-
-pub loop-i-preserved : goal.loop-i-preserved
-loop-i-preserved c =
-    let a = c.args in
-    let l = c.loop-i in (
-      omega arith,
-      l.invariant.1 ∙ zero-block a.s.now l.i (l.i + 64) a.to (omega arith) (omega arith) c.or_range.ensures (eq-eqb _ 0 c.if-or_range-ne0.false),
-    )
-
-pub returns : goal.returns
-returns c = c.or_range-2.ensures ∙ sym c.loop-i.invariant.1
+pub returns-else-all : goal.returns-else-all
+unfolding part
+returns-else-all c =
+    let k = c.as_chunks.ensures in
+    let e = all_from_yields_List all_zero _ _ c.all.result c.all.ensures.ran (YieldsList-from_slice _ c.iter.ensures.rest) (λ x b q k. search (rules, tests)) in
+    c.if-all.false ∙ blocks_tested 64 _ _ _ k.front k.back e c.if-all.false

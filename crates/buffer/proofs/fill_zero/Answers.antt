@@ -1,26 +1,19 @@
--- `buffer::fill_zero` meets its contract. The loop's invariant: zeros are put from `from` up to i. Assumes nothing.
-use mathlib.Core.Path.{◌≡◌, sym}
-use Prim.Native.Nat.{◌-◌}
-use native.Mathlib.Omega.{arith}
-use lib.ListN.{length-set}
+-- `buffer::fill_zero` meets its contract. Assumes nothing.
+use Rattle.std.proofs.Common.{ℕ, ◌≡◌, ◌∙◌, ◌-◌, ◌≤◌, ap, sym, arith, length, length-take, length-drop, replicate, take_all}
+use Rattle.std.proofs.lemmas.List.{length-replicate}
 use Rattle.buffer.specs.Step.{put-nil}
-use Rattle.buffer.proofs.Writes.{fill-turn}
+use Rattle.buffer.proofs.Writes.{copy-law}
 use Rattle.buffer.proofs.fill_zero.Goals as goal
 
-pub loop-i-init : goal.loop-i-init
-loop-i-init c =
+pub returns-after-loop-byte : goal.returns-after-loop-byte
+returns-after-loop-byte c =
     let a = c.args in
-    let e : a.from - a.from ≡ 0 = omega arith in
-    (omega arith, omega arith, omega arith, rw e (sym (put-nil a.s.now a.from)))
+    let l = c.loop-byte in
+    let n : length l.byte-items ≡ a.to - a.from = l.auto.byte-items ∙ simp (length-take, length-drop) (omega arith) in
+    let t : a.to - a.from ≤ l.byte-index = omega (arith, simp (length-take, length-drop) at c.loop-byte-test.false) in
+    let e : l.byte-items ≡ replicate l.byte-index 0 = sym (take_all l.byte-index l.byte-items (omega arith)) ∙ l.invariant in
+    let i : l.byte-index ≡ a.to - a.from = omega (arith, ap length e, length-replicate {A = ℕ} l.byte-index 0) in
+    copy-law a.s.now (replicate (a.to - a.from) 0) l.byte-items a.from a.to (simp length-replicate (omega arith)) (rw i at e)
 
-pub loop-i-preserved : goal.loop-i-preserved
-loop-i-preserved c =
-    let l = c.loop-i in
-    let a = c.args in
-    (omega arith, omega arith, simp length-set (omega arith), cc (fill-turn a.s.now a.from l.i (omega arith) (omega arith)))
-
-pub returns : goal.returns
-returns c =
-    let a = c.args in
-    let e : c.loop-i.i - a.from ≡ a.to - a.from = omega arith in
-    cc
+pub returns-else-from-to : goal.returns-else-from-to
+returns-else-from-to c = let e : c.args.to - c.args.from ≡ 0 = omega arith in rw e (sym (put-nil _ _))

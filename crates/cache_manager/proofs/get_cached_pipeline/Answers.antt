@@ -10,23 +10,25 @@ use Rattle.cache_manager.proofs.get_cached_pipeline.Goals as goal
 pub plan_admitted-requires : goal.plan_admitted-requires
 plan_admitted-requires c =
     let a = c.args in
-    enter a.size a.mode a.ttl a.arena.now _
-    (sym c.admit.ensures ∙ c.in-Admits.is)
+    enter a.cache_config.size a.cache_config.mode a.cache_config.ttl a.arena.now _
+    (sym c.admit.ensures ∙ c.in-Ok.is)
 
-pub returns-in-Refused : goal.returns-in-Refused
-returns-in-Refused c =
+pub returns-in-Err : goal.returns-in-Err
+returns-in-Err c =
     λ next. let a = c.args in
+    let z = sym c.admit.ensures ∙ c.in-Err.is in
     laws.leaves_all a.when.clock a.when.epoch a.bytes.now a.plan.now a.send.now a.arena.now a.counts next _ _ _
-    (laws.call-refused a.size a.mode a.ttl a.when.clock a.when.epoch a.bytes.now a.plan.now a.send.now
-    (holding a.arena.now (counts_of a.counts) next) _ (sym c.admit.ensures ∙ c.in-Refused.is))
-    (ap returned_of c.refused.ensures.0) c.refused.ensures.1
+    (laws.call-refused a.cache_config.size a.cache_config.mode a.cache_config.ttl a.when.clock a.when.epoch a.bytes.now a.plan.now a.send.now
+    (holding a.arena.now (counts_of a.counts) next) _ z)
+    (ap returned_of c.refused.ensures.0 ∙ laws.refused-returned a.cache_config.size a.cache_config.mode a.cache_config.ttl a.when.clock a.when.epoch a.bytes.now a.plan.now a.send.now
+    (holding a.arena.now (counts_of a.counts) next) _ z) c.refused.ensures.1
 
-pub returns-in-Admits : goal.returns-in-Admits
-returns-in-Admits c =
+pub returns-in-Ok : goal.returns-in-Ok
+returns-in-Ok c =
     λ next. let a = c.args in
-    let d = admits a.size a.mode a.ttl a.arena.now _
+    let d = admits a.cache_config.size a.cache_config.mode a.cache_config.ttl a.arena.now _
     (sym c.admit.ensures
-    ∙ c.in-Admits.is) in
-    rw (laws.call-admitted a.size a.mode a.ttl a.when.clock a.when.epoch a.bytes.now a.plan.now a.send.now
+    ∙ c.in-Ok.is) in
+    rw (laws.call-admitted a.cache_config.size a.cache_config.mode a.cache_config.ttl a.when.clock a.when.epoch a.bytes.now a.plan.now a.send.now
     (holding a.arena.now (counts_of a.counts) next) _ _ d.fine d.read)
     (c.plan_admitted.ensures _ next d.lent)

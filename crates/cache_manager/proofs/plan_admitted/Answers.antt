@@ -20,22 +20,22 @@ plan_record-requires c = (
   c.requires,
   omega arith,
   sym
-      c.check.ensures ∙ c.in-Fine.is,
+      c.check.ensures ∙ c.in-Ok.is,
 )
 
-pub returns-in-Wrong : goal.returns-in-Wrong
-returns-in-Wrong c =
+pub returns-in-Err : goal.returns-in-Err
+returns-in-Err c =
     λ rows next o. let a = c.args in
     laws.leaves_all a.when.clock a.when.epoch a.bytes.now a.plan.now a.send.now a.arena.now a.counts next _ _ _
     (laws.bad-record a.when.clock a.when.epoch a.bytes.now a.plan.now a.send.now (holding a.arena.now (counts_of a.counts) next)
     a.g rows
-    (omega arith) _ (sym c.check.ensures ∙ c.in-Wrong.is)) refl refl
+    (omega arith) _ (sym c.check.ensures ∙ c.in-Err.is)) (ap returned_of c.refused-in-Err.ensures.0) c.refused-in-Err.ensures.1
 
-pub returns-in-Fine : goal.returns-in-Fine
-returns-in-Fine c =
+pub returns-in-Ok : goal.returns-in-Ok
+returns-in-Ok c =
     λ rows next o. let a = c.args in
     rw (laws.good-record a.when.clock a.when.epoch a.bytes.now a.plan.now a.send.now
     (holding a.arena.now (counts_of a.counts) next) a.g rows
     (omega arith) (sym c.check.ensures
-    ∙ c.in-Fine.is))
+    ∙ c.in-Ok.is))
     (c.plan_record.ensures rows next o)

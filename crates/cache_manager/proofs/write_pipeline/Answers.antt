@@ -3,7 +3,7 @@ use mathlib.Core.Path.{refl, ap}
 use native.Mathlib.Omega.{arith}
 use Rattle.cursor.specs.At.{commands_at}
 use Rattle.cache_manager.specs.Fit.{commands-count}
-use Rattle.cache_manager.specs.declared.Pipelined.TheVariants.{Done}
+use Rattle.std.specs.Prelude.{Ok}
 use Rattle.cache_manager.specs.Passed as laws
 use Rattle.cache_manager.proofs.write_pipeline.Goals as goal
 
@@ -62,4 +62,4 @@ returns c =
     c.write_plan_head-to.ensures
     c.write_start-from.ensures
     w.4 _ _ _ _ c.plan_commands-y.ensures.0 _ _ _
-    c.write_end-end.ensures (ap Done c.written_of-written.ensures) refl
+    c.write_end-end.ensures (ap Ok c.written_of-written.ensures) refl

@@ -10,6 +10,6 @@ returns c =
     let a = c.args in
     λ was next w.
     added-as a.arena.now _ was w next _ c.none_yet.ensures
-    (single_call a.size a.mode a.ttl (invalidate a.key.now))
-    (λ lent h. single_more lent a.size a.mode a.ttl (invalidate a.key.now) h) _ (c.invalidate.ensures next) _
+    (single_call a.cache_config.size a.cache_config.mode a.cache_config.ttl (invalidate a.key.now))
+    (λ lent h. single_more lent a.cache_config.size a.cache_config.mode a.cache_config.ttl (invalidate a.key.now) h) _ (c.invalidate.ensures next) _
     c.comes_to.ensures

@@ -18,8 +18,8 @@ returns-clause-given c =
     let a = c.args in
     let k = c.lookup-r in
     λ lent next fit. looked-as a.arena.now k.new.arena lent fit next _ c.none_yet-none.ensures
-    (single_call a.size a.mode a.ttl (lookup a.key.now a.command.now a.clock a.epoch))
-    (λ counts h. single_more counts a.size a.mode a.ttl (lookup a.key.now a.command.now a.clock a.epoch) h) _ _
+    (single_call a.cache_config.size a.cache_config.mode a.cache_config.ttl (lookup a.key.now a.command.now a.when.clock a.when.epoch))
+    (λ counts h. single_more counts a.cache_config.size a.cache_config.mode a.cache_config.ttl (lookup a.key.now a.command.now a.when.clock a.when.epoch) h) _ _
     (k.ensures next) _ c.lookup_return.ensures _ c.served.ensures.bytes
 
 pub returns-clause-is_part : goal.returns-clause-is_part
@@ -34,6 +34,6 @@ returns-clause-is_part c =
     λ lent next.
     let m = part_at (start_of f) _ _ _ _ u _
     (start-of f ∙ (k.ensures next).place
-    ∙ place-alike a.size a.mode a.ttl a.key.now a.command.now a.clock a.epoch a.arena.now was lent next next)
+    ∙ place-alike a.cache_config.size a.cache_config.mode a.cache_config.ttl a.key.now a.command.now a.when.clock a.when.epoch a.arena.now was lent next next)
     v.place.1 w.0 w.1 in
     (v.place.0, m.0, m.1, m.2)

@@ -7,7 +7,7 @@ use Rattle.buffer.specs.Same.{Bytes}
 use Rattle.buffer.specs.Part.{put}
 use Rattle.resolving_walk.specs.Walk.{walk}
 use Rattle.resolving_passes.specs.Passes.{answer_bytes}
-use Rattle.caching_cmd.specs.declared.ResolveAnswer.TheVariants.{Answered}
+use Rattle.caching_cmd.specs.Call.{answered_with}
 use Rattle.caching_cmd.proofs.write_result.Goals as goal
 
 pub answer_pass-end-requires : goal.answer_pass-end-requires
@@ -25,6 +25,6 @@ returns c =
     λ ns es rs h.
     let z = c.answer_pass-end.ensures ns es rs h in
     let B : Bytes = answer_bytes (walk x.g.mode x.clock ns es rs) in (
-      ap (λ (i : ℕ). Answered i x.refused) (z.0 ∙ ap (λ (i : ℕ). i + length B) w.0),
+      ap (λ (i : ℕ). answered_with i x.refused) (z.0 ∙ ap (λ (i : ℕ). i + length B) w.0),
       z.1 ∙ ap₂ (λ (s : Bytes) (i : ℕ). put s i B) w.1 w.0,
     )

@@ -1,26 +1,20 @@
--- `call_record_vectors::put_arguments` is safe and ends: each step leaves a cursor that stands in the record (`simple-here`, `cursor-here`). Assumes nothing.
-use Rattle.call_record_vectors.specs.Walk.{simple-here, cursor-here}
+-- `call_record_vectors::put_arguments` is safe by its loop's invariant. Assumes nothing.
+use mathlib.Core.Path.{ap, ◌∙◌}
+use Rattle.cursor.specs.Steps.{iter-next}
 use Rattle.call_record_vectors.proofs.put_arguments.Goals as goal
 
-pub next_arg-n-requires : goal.next_arg-n-requires
-next_arg-n-requires g c = c.loop-k.invariant
+pub loop-arg-init : goal.loop-arg-init
+loop-arg-init g c =
+    let e = c.args_iter-arg-items.ensures in
+    rw c.into_iter-arg-iterator.ensures.into_iter_gives (rw e.1 (e.0, c.requires))
 
 pub put_range-requires : goal.put_range-requires
 put_range-requires g c =
-    (simple-here _ _ _ _ _ c.next_arg-n.ensures c.in-Simple.is c.loop-k.invariant).0
+    let v = c.loop-arg.invariant in
+    let w = iter-next _ _ v.0 _ _ v.1 _ c.in-Some.ensures.steps.1 in
+    rw c.in-Simple.is at w.inside
 
-pub loop-k-smaller-in-Simple : goal.loop-k-smaller-in-Simple
-loop-k-smaller-in-Simple g c =
-    (simple-here _ _ _ _ _ c.next_arg-n.ensures c.in-Simple.is c.loop-k.invariant).2
-
-pub loop-k-preserved-in-Simple : goal.loop-k-preserved-in-Simple
-loop-k-preserved-in-Simple g c =
-    (simple-here _ _ _ _ _ c.next_arg-n.ensures c.in-Simple.is c.loop-k.invariant).1
-
-pub loop-k-smaller : goal.loop-k-smaller
-loop-k-smaller g c =
-    (cursor-here _ _ _ _ c.next_arg-n.ensures c.in-Cursor.is c.loop-k.invariant).1
-
-pub loop-k-preserved : goal.loop-k-preserved
-loop-k-preserved g c =
-    (cursor-here _ _ _ _ c.next_arg-n.ensures c.in-Cursor.is c.loop-k.invariant).0
+pub loop-arg-preserved : goal.loop-arg-preserved
+loop-arg-preserved g c =
+    let v = c.loop-arg.invariant in
+    (ap (λ x. x.now) c.in-Some.ensures.steps.0 ∙ v.0, (iter-next _ _ v.0 _ _ v.1 _ c.in-Some.ensures.steps.1).here)

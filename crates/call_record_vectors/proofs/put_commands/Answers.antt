@@ -1,21 +1,14 @@
--- `call_record_vectors::put_commands` is safe and ends: each step leaves a cursor that stands in the record (`command-here`). Assumes nothing.
-use Rattle.call_record_vectors.specs.Walk.{command-here}
+-- `call_record_vectors::put_commands` is safe by its loop's invariant. Assumes nothing.
+use mathlib.Core.Path.{sym, ◌∙◌}
+use native.Mathlib.Omega.{arith}
+use Rattle.cursor.specs.Steps.{CommandStepped, command-stepped}
 use Rattle.call_record_vectors.proofs.put_commands.Goals as goal
 
-pub loop-k-init : goal.loop-k-init
-loop-k-init g c = c.requires
-
-pub next_command-n-requires : goal.next_command-n-requires
-next_command-n-requires g c = c.loop-k.invariant
-
 pub put_command-requires : goal.put_command-requires
-put_command-requires g c =
-    (command-here _ _ _ _ _ c.next_command-n.ensures c.in-Command.is c.loop-k.invariant).0
+put_command-requires g c = (command-stepped _ _ _ _ c.loop-h.invariant (sym c.next_command.ensures ∙ c.in-Some.is)).args
 
-pub loop-k-smaller : goal.loop-k-smaller
-loop-k-smaller g c =
-    (command-here _ _ _ _ _ c.next_command-n.ensures c.in-Command.is c.loop-k.invariant).2
+pub loop-h-smaller : goal.loop-h-smaller
+loop-h-smaller g c = let n = (command-stepped _ _ _ c.in-Some.rest c.loop-h.invariant (sym c.next_command.ensures ∙ c.in-Some.is)).count in omega arith
 
-pub loop-k-preserved : goal.loop-k-preserved
-loop-k-preserved g c =
-    (command-here _ _ _ _ _ c.next_command-n.ensures c.in-Command.is c.loop-k.invariant).1
+pub loop-h-preserved : goal.loop-h-preserved
+loop-h-preserved g c = (command-stepped _ _ _ c.in-Some.rest c.loop-h.invariant (sym c.next_command.ensures ∙ c.in-Some.is)).here

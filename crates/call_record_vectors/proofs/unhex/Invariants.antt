@@ -1,11 +1,9 @@
--- `call_record_vectors::unhex` is safe and ends: it writes within the buffer. Assumes nothing.
-use mathlib.Core.Path.{◌≡◌}
-use Prim.Native.Nat.{◌≤◌, ◌-◌}
-use lib.ListN.{length}
+-- `call_record_vectors::unhex` is safe by its loop's invariant. Assumes nothing.
+use Prim.Native.Nat.{◌+◌, ◌≤◌}
 use Rattle.call_record_vectors.proofs.unhex.Given as goal
 
-abbrev pub invariant-loop-n : goal.invariant-loop-n
-invariant-loop-n l = (l.n ≤ length l.out) × (length l.out ≡ length l.initial.out)
-
-abbrev pub decreases-loop-n : goal.decreases-loop-n
-decreases-loop-n l = length l.out - l.n
+abbrev pub invariant-loop-digits : goal.invariant-loop-digits
+invariant-loop-digits l =
+    (goal.iterator-loop-digits).can_next l.digits-iterator
+    × (goal.iterator-loop-digits).is_finite l.digits-iterator
+    × (l.n + (goal.iterator-loop-digits).remaining l.digits-iterator ≤ (goal.iterator-loop-digits).remaining l.initial.digits-iterator)

@@ -2,15 +2,13 @@
 use mathlib.Core.Path.{◌≡◌}
 use Prim.Native.Nat.{◌+◌, ◌-◌, ◌*◌, ◌≤◌}
 use lib.ListN.{length}
-use Rattle.cursor.specs.At.{ArgsIn, args_at}
-use Rattle.cmd.specs.Pack.{texts, packed}
-use Rattle.cmd.specs.Laws as laws
+use Rattle.cursor.specs.At.{args_of, ArgsHere}
+use Rattle.cmd.specs.Pack.{texts, packed, blob_bytes}
 use Rattle.cmd.proofs.args_len.Given as goal
 
-abbrev pub invariant-loop-left : goal.invariant-loop-left
-invariant-loop-left l =
-    ArgsIn l.s l.left l.at × (l.total + length (laws.blobs_at l.s l.cursor l.left l.at) ≡ length (packed (texts l.cursor (args_at l.s l.initial.left l.initial.at))))
-    × (l.total ≤ 23 + 45 * (l.initial.left - l.left) + l.at) × (l.left ≤ l.initial.left)
-
-abbrev pub decreases-loop-left : goal.decreases-loop-left
-decreases-loop-left l = l.left
+abbrev pub invariant-loop-arg : goal.invariant-loop-arg
+invariant-loop-arg l =
+    let k = l.arg-iterator.rest in
+    (l.arg-iterator.bytes.now ≡ l.s) × ArgsHere l.s k
+    × (l.total + length (blob_bytes (texts l.cursor (args_of l.s k))) ≡ length (packed (texts l.cursor (args_of l.s l.fn.k))))
+    × (l.total ≤ 23 + 45 * (l.fn.k.left - k.left) + k.at) × (k.left ≤ l.fn.k.left)

@@ -1,12 +1,12 @@
 -- `cmd::write_arguments` meets its contract by its loop's invariant. Assumes nothing.
-use Rattle.cursor.specs.At.{ArgsIn}
+use mathlib.Core.Path.{◌≡◌}
 use Rattle.buffer.specs.Copied as cop
-use Rattle.cmd.specs.Laws as laws
+use Rattle.cursor.specs.At.{args_of, ArgsHere}
+use Rattle.cmd.specs.Pack.{texts, blob_bytes}
 use Rattle.cmd.proofs.write_arguments.Given as goal
 
-abbrev pub invariant-loop-left : goal.invariant-loop-left
-invariant-loop-left l =
-    ArgsIn l.s l.left l.at × cop.Copied l.initial.dst l.to (laws.blobs_at l.s l.cursor l.initial.left l.initial.at) l.dst l.next (laws.blobs_at l.s l.cursor l.left l.at)
-
-abbrev pub decreases-loop-left : goal.decreases-loop-left
-decreases-loop-left l = l.left
+abbrev pub invariant-loop-arg : goal.invariant-loop-arg
+invariant-loop-arg l =
+    let k = l.arg-iterator.rest in
+    (l.arg-iterator.bytes.now ≡ l.s) × ArgsHere l.s k
+    × cop.Copied l.initial.dst l.to (blob_bytes (texts l.cursor (args_of l.s l.fn.k))) l.dst l.next (blob_bytes (texts l.cursor (args_of l.s k)))

@@ -1,48 +1,45 @@
 -- `command_key::joined_len` meets its contract by its loop's invariant. Assumes nothing.
-use mathlib.Core.Path.{◌≡◌, ap}
-use Prim.Native.Nat.{ℕ, ◌+◌, ◌-◌}
+use mathlib.Core.Path.{ap, ◌∙◌}
 use native.Mathlib.Omega.{arith}
 use lib.ListN.{length}
-use Rattle.cursor.specs.Steps.{in-more, in-first}
+use Rattle.cursor.specs.Steps.{Stepped, in_start, iter-next, iter-done}
 use Rattle.command_key.specs.Joined as laws
 use Rattle.command_key.proofs.joined_len.Goals as goal
+use Rattle.command_key.proofs.joined_len.Goals.{In-Some}
 
-pub loop-left-init : goal.loop-left-init
-loop-left-init c = (c.requires, omega arith, omega arith)
+-- the argument that comes
+this : (c : In-Some) → Stepped c.args.s.now c.loop-arg.arg-iterator.rest c.in-Some.arg c.next.new.self.rest
+this c = iter-next _ _ c.loop-arg.invariant.0 _ _ c.loop-arg.invariant.1 _ c.in-Some.ensures.steps.1
 
-pub overflow_add-at : goal.overflow_add-at
-overflow_add-at c = let i = (in-first _ _ _ (λ z. omega arith) c.loop-left.invariant.0).room in omega arith
+pub loop-arg-init : goal.loop-arg-init
+loop-arg-init c =
+    let e = c.args_iter-arg-items.ensures in
+    rw c.into_iter-arg-iterator.ensures.into_iter_gives (rw e.1 (e.0, c.requires, omega arith, omega arith))
 
-pub read_u32-n-requires : goal.read_u32-n-requires
-read_u32-n-requires c = let i = (in-first _ _ _ (λ z. omega arith) c.loop-left.invariant.0).room in omega arith
+pub own_bytes-requires : goal.own_bytes-requires
+own_bytes-requires c = (this (goal.at.own_bytes-requires c).In-Some).inside
 
 pub overflow_add-total : goal.overflow_add-total
 overflow_add-total c =
-    let i = (in-first _ _ _ (λ z. omega arith) c.loop-left.invariant.0).inside in
-    let e = c.read_u32-n.ensures in
-    let b = c.loop-left.invariant.2 in
-    omega arith
+    let w = this (goal.at.overflow_add-total c).In-Some in
+    let e = w.ends in
+    let i = in_start _ _ _ w.here in
+    let b = c.loop-arg.invariant.3 in
+    rw c.own_bytes.ensures (omega arith)
 
-pub overflow_add-at-in-loop-left : goal.overflow_add-at-in-loop-left
-overflow_add-at-in-loop-left c = let i = (in-first _ _ _ (λ z. omega arith) c.loop-left.invariant.0).room in omega arith
-
-pub overflow_add-at-in-loop-left-2 : goal.overflow_add-at-in-loop-left-2
-overflow_add-at-in-loop-left-2 c = let i = (in-first _ _ _ (λ z. omega arith) c.loop-left.invariant.0).inside in let e = c.read_u32-n.ensures in omega arith
-
-pub loop-left-preserved : goal.loop-left-preserved
-loop-left-preserved c =
-    let l : ℕ = c.loop-left.left in
-    let w = c.loop-left.invariant in
-    let a = w.1 in
-    let b = w.2 in
-    let e = c.read_u32-n.ensures in
-    let q : l ≡ l - 1 + 1 = omega arith in
-    let j = laws.joined_length _ l (l - 1) _ q w.0 in
-    rw e ((in-more _ l (l - 1) _ q w.0).1, omega arith, omega arith)
+pub loop-arg-preserved : goal.loop-arg-preserved
+loop-arg-preserved c =
+    let w = this (goal.at.loop-arg-preserved c).In-Some in
+    let v = c.loop-arg.invariant in
+    let a = v.2 in
+    let b = v.3 in
+    let e = w.ends in
+    let l = laws.key-length _ _ _ _ w in
+    rw c.own_bytes.ensures (ap (λ x. x.now) c.in-Some.ensures.steps.0 ∙ v.0, w.here, omega arith, omega arith)
 
 pub returns : goal.returns
 returns c =
-    let a = c.loop-left.invariant.1 in
-    let z : c.loop-left.left ≡ 0 = omega arith in
-    let j = ap length (laws.joined-none c.args.s.now _ c.loop-left.at z) in
+    let z = iter-done _ _ c.loop-arg.invariant.0 _ _ c.loop-arg.invariant.1 c.in-None.ensures.steps.1 in
+    let l = ap length (laws.key-none c.args.s.now c.loop-arg.arg-iterator.rest z) in
+    let a = c.loop-arg.invariant.2 in
     omega arith

@@ -2,12 +2,11 @@
 use mathlib.Core.Path.{◌≡◌}
 use Prim.Native.Nat.{◌+◌, ◌≤◌}
 use lib.ListN.{length}
-use Rattle.cursor.specs.At.{ArgsIn}
-use Rattle.command_key.specs.Joined as laws
+use Rattle.cursor.specs.At.{args_of, ArgsHere}
+use Rattle.command_key.specs.Key.{command_key}
 use Rattle.command_key.proofs.joined_len.Given as goal
 
-abbrev pub invariant-loop-left : goal.invariant-loop-left
-invariant-loop-left l = ArgsIn l.s l.left l.at × (l.total + length (laws.joined_at l.s l.left l.at) ≡ length (laws.joined_at l.s l.initial.left l.initial.at)) × (l.total ≤ l.at)
-
-abbrev pub decreases-loop-left : goal.decreases-loop-left
-decreases-loop-left l = l.left
+abbrev pub invariant-loop-arg : goal.invariant-loop-arg
+invariant-loop-arg l =
+    let k = l.arg-iterator.rest in
+    (l.arg-iterator.bytes.now ≡ l.s) × ArgsHere l.s k × (l.total + length (command_key (args_of l.s k)) ≡ length (command_key (args_of l.s l.fn.k))) × (l.total ≤ k.at)

@@ -1,72 +1,56 @@
 -- `command_key::joined_same` meets its contract by its loop's invariant. Assumes nothing.
 use mathlib.Core.Path.{◌≡◌, refl, sym, ap, ◌∙◌}
-use Prim.Native.Nat.{ℕ, ◌+◌, ◌-◌}
+use mathlib.Core.List.{◌++◌}
 use native.Mathlib.Omega.{arith}
-use Rattle.cursor.specs.Steps.{in-more, in-first}
+use Rattle.buffer.specs.Same.{Bytes, same}
+use Rattle.cursor.specs.At.{own, argument_of, args_of}
+use Rattle.cursor.specs.Steps.{Stepped, iter-next, iter-done}
+use Rattle.command_key.specs.Key.{command_key}
 use Rattle.command_key.specs.Joined as laws
-use Rattle.buffer.specs.Same.{same}
 use Rattle.command_key.proofs.joined_same.Goals as goal
+use Rattle.command_key.proofs.joined_same.Goals.{In-Some}
 
-pub loop-left-init : goal.loop-left-init
-loop-left-init c = (c.requires, omega arith, refl)
+-- the argument that comes
+this : (c : In-Some) → Stepped c.args.s.now c.loop-arg.arg-iterator.rest c.in-Some.arg c.next.new.self.rest
+this c = iter-next _ _ c.loop-arg.invariant.0 _ _ c.loop-arg.invariant.1 _ c.in-Some.ensures.steps.1
 
-pub overflow_add-at : goal.overflow_add-at
-overflow_add-at c = let i = (in-first _ _ _ (λ z. omega arith) c.loop-left.invariant.0).room in omega arith
+-- its bytes, and the others'
+pieces : (c : In-Some) (x : Bytes) → x ≡ own (argument_of c.args.s.now c.in-Some.arg)
+    → command_key (args_of c.args.s.now c.loop-arg.arg-iterator.rest) ≡ x ++ command_key (args_of c.args.s.now c.next.new.self.rest)
+pieces c x e = rw e (laws.key-more _ _ _ _ (this c))
 
-pub read_u32-n-requires : goal.read_u32-n-requires
-read_u32-n-requires c = let i = (in-first _ _ _ (λ z. omega arith) c.loop-left.invariant.0).room in omega arith
+pub loop-arg-init : goal.loop-arg-init
+loop-arg-init c =
+    let e = c.args_iter-arg-items.ensures in
+    rw c.into_iter-arg-iterator.ensures.into_iter_gives (rw e.1 (e.0, c.requires, omega arith, refl))
 
-pub overflow_add-start : goal.overflow_add-start
-overflow_add-start c = let i = (in-first _ _ _ (λ z. omega arith) c.loop-left.invariant.0).room in omega arith
+pub own_bytes-text-requires : goal.own_bytes-text-requires
+own_bytes-text-requires c = (this (goal.at.own_bytes-text-requires c).In-Some).inside
 
-pub overflow_add-end : goal.overflow_add-end
-overflow_add-end c = let i = (in-first _ _ _ (λ z. omega arith) c.loop-left.invariant.0).inside in let e = c.read_u32-n.ensures in omega arith
+pub returns-then-text-t : goal.returns-then-text-t
+returns-then-text-t c =
+    let v = c.loop-arg.invariant in
+    sym (v.3 ∙ laws.same-long _ _ c.own_bytes-text.result.now _ _ (pieces (goal.at.returns-then-text-t c).In-Some _ c.own_bytes-text.ensures) v.2 (omega arith))
 
-pub returns-then-n-t : goal.returns-then-n-t
-returns-then-n-t c =
-    let l : ℕ = c.loop-left.left in
-    let w = c.loop-left.invariant in
-    let d = w.1 in
-    sym (w.2 ∙ laws.same-long _ _ l (l - 1) _ _ _ (omega arith) w.0 c.read_u32-n.ensures d (omega arith))
+pub returns-then-not-same_at : goal.returns-then-not-same_at
+returns-then-not-same_at c =
+    let v = c.loop-arg.invariant in
+    sym (v.3 ∙ laws.same-no _ _ _ _ _ (pieces (goal.at.returns-then-not-same_at c).In-Some _ c.own_bytes-text.ensures) v.2 (omega arith)
+    (sym c.same_at.ensures ∙ c.if-not-same_at.true))
 
-pub slice_bounds-same_at-end : goal.slice_bounds-same_at-end
-slice_bounds-same_at-end c =
-    let i = (in-first _ _ _ (λ z. omega arith) c.loop-left.invariant.0).inside in
-    let e = c.read_u32-n.ensures in
-    omega arith
-
-pub same_at-requires : goal.same_at-requires
-same_at-requires c =
-    let w = c.loop-left.invariant in
-    let d = w.1 in
-    let n = laws.cut-length _ _ _ c.read_u32-n.ensures (in-first _ _ _ (λ z. omega arith) w.0) in
-    omega arith
-
-pub overflow_add-done : goal.overflow_add-done
-overflow_add-done c = let w = c.loop-left.invariant in let d = w.1 in omega arith
-
-pub returns-else-same_at : goal.returns-else-same_at
-returns-else-same_at c =
-    let l : ℕ = c.loop-left.left in
-    let w = c.loop-left.invariant in
-    let d = w.1 in
-    sym (w.2 ∙ laws.same-no _ _ l (l - 1) _ _ _ (omega arith) w.0 c.read_u32-n.ensures d (omega arith)
-    (sym c.same_at.ensures ∙ c.if-same_at.false))
-
-pub loop-left-preserved : goal.loop-left-preserved
-loop-left-preserved c =
-    let l : ℕ = c.loop-left.left in
-    let w = c.loop-left.invariant in
-    let d = w.1 in
-    let e = c.read_u32-n.ensures in
-    let q : l ≡ l - 1 + 1 = omega arith in (
-      rw e (in-more _ l (l - 1) _ q w.0).1,
+pub loop-arg-preserved : goal.loop-arg-preserved
+loop-arg-preserved c =
+    let v = c.loop-arg.invariant in
+    let d = v.2 in (
+      ap (λ x. x.now) c.in-Some.ensures.steps.0 ∙ v.0,
+      (this (goal.at.loop-arg-preserved c).In-Some).here,
       omega arith,
-      w.2 ∙ laws.same-yes _ _ l (l - 1) _ _ _ q w.0 e d (omega arith) (sym c.same_at.ensures ∙ c.if-same_at.true),
+      v.3 ∙ laws.same-yes _ _ _ _ _ (pieces (goal.at.loop-arg-preserved c).In-Some _ c.own_bytes-text.ensures) d (omega arith)
+          (sym c.same_at.ensures ∙ c.if-not-same_at.false),
     )
 
 pub returns : goal.returns
 returns c =
-    let w = c.loop-left.invariant in
-    let z : c.loop-left.left ≡ 0 = omega arith in
-    sym (w.2 ∙ ap (same _) (laws.joined-none _ _ _ z) ∙ laws.same-nil _ _ w.1)
+    let v = c.loop-arg.invariant in
+    let z = iter-done _ _ v.0 _ _ v.1 c.in-None.ensures.steps.1 in
+    sym (v.3 ∙ ap (same _) (laws.key-none _ _ z) ∙ laws.same-nil _ _ v.2)

@@ -1,10 +1,10 @@
 -- `cursor::args_end` meets its contract by its loop's invariant. Assumes nothing.
 use mathlib.Core.Path.{◌≡◌}
-use Rattle.cursor.specs.At.{args_end, ArgsIn}
+use Rattle.cursor.specs.At.{args_end, ArgsHere}
 use Rattle.cursor.proofs.args_end.Given as goal
 
-abbrev pub invariant-loop-left : goal.invariant-loop-left
-invariant-loop-left l = ArgsIn l.s l.left l.at × (args_end l.s l.initial.left l.initial.at ≡ args_end l.s l.left l.at)
+abbrev pub invariant-loop-rest : goal.invariant-loop-rest
+invariant-loop-rest l = ArgsHere l.s l.k × (args_end l.s l.fn.k.left l.fn.k.at ≡ args_end l.s l.k.left l.k.at)
 
-abbrev pub decreases-loop-left : goal.decreases-loop-left
-decreases-loop-left l = l.left
+abbrev pub decreases-loop-rest : goal.decreases-loop-rest
+decreases-loop-rest l = l.k.left

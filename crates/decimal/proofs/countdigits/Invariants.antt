@@ -6,7 +6,10 @@ use Rattle.decimal.specs.Digits.{digits}
 use Rattle.decimal.proofs.countdigits.Given as goal
 
 abbrev pub invariant-loop-n : goal.invariant-loop-n
-invariant-loop-n l = (4 < length (digits l.v)) × (length (digits l.v) ≤ l.n) × (l.n ≤ 20)
+invariant-loop-n l = l.n ≤ length (digits l.v)
 
-abbrev pub decreases-loop-n : goal.decreases-loop-n
-decreases-loop-n l = l.n
+abbrev pub invariant-loop-n-2 : goal.invariant-loop-n-2
+invariant-loop-n-2 l = (4 < length (digits l.v)) × (length (digits l.v) ≤ l.n) × (l.n ≤ 20)
+
+abbrev pub decreases-loop-n-2 : goal.decreases-loop-n-2
+decreases-loop-n-2 l = l.n

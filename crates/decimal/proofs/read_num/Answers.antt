@@ -1,88 +1,22 @@
--- `decimal::read_num` meets its contract. What stands from i on, behind digits of value v, is read as what stands at `at`; v is within
--- the limit. Assumes nothing.
-use mathlib.Core.Path.{◌≡◌, refl, sym, ◌∙◌}
+-- `decimal::read_num` meets its contract: the digits, and the CR LF behind them. Assumes nothing.
+use mathlib.Core.Path.{sym, ap, ◌∙◌}
 use native.Mathlib.Omega.{arith}
-use lib.ListN.{drop}
-use Rattle.decimal.specs.Read.{lead, val_acc}
-use Rattle.decimal.specs.ReadLaws.{lead-stop, val-stop, Turn, turn, fin-within, num-zero, num-none, num-out, num-more, num-over}
+use Rattle.decimal.specs.Read.{ended_def}
+use Rattle.decimal.specs.ReadLaws.{crlf-in, num-digits, ended_of}
 use Rattle.decimal.proofs.read_num.Goals as goal
-use Rattle.decimal.proofs.read_num.Goals.{In-loop-at, After-loop-at}
 
--- a digit stands at i
-at-digit : (c : In-loop-at) → Turn c.args.s.now c.loop-at.i
-    c.loop-at.v
-at-digit c = turn _ _ _ (sym c.digit_at.ensures ∙ c.loop-at-test.true)
+pub returns-in_err-v : goal.returns-in_err-v
+returns-in_err-v c = c.from_residual.ensures ∙ sym (num-digits _ _ _ ∙ ap (ended_of _) (sym c.digits_at.ensures ∙ c.in_err-v.was))
 
--- no digit stands at i: none begin there, and the value stays
-at-stop : (c : After-loop-at) →
-    let s = c.args.s.now in
-    let i = c.loop-at.i in
-    let v = c.loop-at.v in
-    (lead (drop i s) ≡ 0) × (val_acc v (drop i s) ≡ v)
-at-stop c =
-    let s = c.args.s.now in
-    let i = c.loop-at.i in
-    let d = sym c.digit_at.ensures ∙ c.loop-at-test.false in
-    (lead-stop s i d, val-stop c.loop-at.v s i d)
+pub overflow_add-result : goal.overflow_add-result
+overflow_add-result c = omega (arith, crlf-in c.args.s.now c.in_ok-v.e (sym c.crlf_at.ensures ∙ c.if-crlf_at.true))
 
-pub returns-then-at-s : goal.returns-then-at-s
-returns-then-at-s c = sym (num-out _ _ _ c.if-at-s.true)
+pub returns-then-crlf_at : goal.returns-then-crlf_at
+unfolding ended_def
+returns-then-crlf_at c =
+    sym (num-digits _ _ _ ∙ ap (ended_of _) (sym c.digits_at.ensures ∙ c.in_ok-v.was) ∙ rw (sym c.crlf_at.ensures ∙ c.if-crlf_at.true))
 
-pub returns-then-s-at-eq48 : goal.returns-then-s-at-eq48
-returns-then-s-at-eq48 c = c.ended.ensures ∙ sym (num-zero _ _ _ c.if-s-at-eq48.true ∙ fin-within _ _ _ _ (omega arith))
-
-pub loop-at-init : goal.loop-at-init
-loop-at-init c = (omega arith, omega arith, omega arith, refl, refl)
-
-pub returns-then-v-tenth : goal.returns-then-v-tenth
-returns-then-v-tenth c = let t = at-digit (goal.at.returns-then-v-tenth c).In-loop-at in sym (num-over _ _ _ c.if-s-at-eq48.false (omega arith))
-
-pub bounds-s-i : goal.bounds-s-i
-bounds-s-i c = (at-digit (goal.at.bounds-s-i c).In-loop-at).within
-
-pub overflow_sub-digit : goal.overflow_sub-digit
-overflow_sub-digit c = let t = at-digit (goal.at.overflow_sub-digit c).In-loop-at in omega arith
-
-pub overflow_mul-v : goal.overflow_mul-v
-overflow_mul-v c = let t = at-digit (goal.at.overflow_mul-v c).In-loop-at in omega arith
-
-pub overflow_sub-lim : goal.overflow_sub-lim
-overflow_sub-lim c = let t = at-digit (goal.at.overflow_sub-lim c).In-loop-at in omega arith
-
-pub returns-then-digit-lim : goal.returns-then-digit-lim
-returns-then-digit-lim c =
-    let t = at-digit (goal.at.returns-then-digit-lim c).In-loop-at in
-    sym (num-over _ _ _ c.if-s-at-eq48.false (omega arith))
-
-pub overflow_mul-v-in-loop-at : goal.overflow_mul-v-in-loop-at
-overflow_mul-v-in-loop-at c = let t = at-digit (goal.at.overflow_mul-v-in-loop-at c).In-loop-at in omega arith
-
-pub overflow_add-v : goal.overflow_add-v
-overflow_add-v c = let t = at-digit (goal.at.overflow_add-v c).In-loop-at in omega arith
-
-pub overflow_add-i : goal.overflow_add-i
-overflow_add-i c = let t = at-digit (goal.at.overflow_add-i c).In-loop-at in omega arith
-
-pub loop-at-smaller : goal.loop-at-smaller
-loop-at-smaller c = let t = at-digit (goal.at.loop-at-smaller c).In-loop-at in omega arith
-
-pub loop-at-preserved : goal.loop-at-preserved
-loop-at-preserved c =
-    let t = at-digit (goal.at.loop-at-preserved c).In-loop-at in (
-      omega arith,
-      omega arith,
-      omega arith,
-      omega arith,
-      c.loop-at.invariant.4
-          ∙ rw c.wide-digit.ensures t.joins,
-    )
-
-pub returns-then-i-at : goal.returns-then-i-at
-returns-then-i-at c = let n = at-stop (goal.at.returns-then-i-at c).After-loop-at in sym (num-none _ _ _ c.if-s-at-eq48.false (omega arith))
-
-pub returns : goal.returns
-returns c =
-    let n = at-stop (goal.at.returns c).After-loop-at in
-    c.ended-2.ensures ∙ sym
-    (num-more _ _ _ _ _ c.if-s-at-eq48.false (omega arith) (omega arith)
-    (c.loop-at.invariant.4 ∙ n.1) ∙ fin-within _ _ _ _ (omega arith))
+pub returns-else-crlf_at : goal.returns-else-crlf_at
+unfolding ended_def
+returns-else-crlf_at c =
+    sym (num-digits _ _ _ ∙ ap (ended_of _) (sym c.digits_at.ensures ∙ c.in_ok-v.was) ∙ rw (sym c.crlf_at.ensures ∙ c.if-crlf_at.false))

@@ -7,7 +7,4 @@ use Rattle.decimal.proofs.Written.{Written}
 use Rattle.decimal.proofs.write_digits.Given as goal
 
 abbrev pub invariant-loop-i : goal.invariant-loop-i
-invariant-loop-i l = (l.at ≤ l.i) × (l.i ≤ l.end) × (l.end ≡ l.at + length (digits l.v)) × Written l.initial.dst l.at l.v l.w l.i l.dst
-
-abbrev pub decreases-loop-i : goal.decreases-loop-i
-decreases-loop-i l = l.i
+invariant-loop-i l = (l.at ≤ l.i) × (l.end ≡ l.at + length (digits l.v)) × Written l.initial.dst l.at l.v l.w l.i l.dst

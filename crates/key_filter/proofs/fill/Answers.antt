@@ -45,15 +45,6 @@ note_shard-requires c =
           c.loop-i.i _ c.loop-i-test.true refl;
     }
 
-pub overflow_add-i : goal.overflow_add-i
-overflow_add-i c =
-    let few = c.requires.lent.few in
-    let h = c.loop-i-test.true in
-    omega arith
-
-pub loop-i-smaller : goal.loop-i-smaller
-loop-i-smaller c = let h = c.loop-i-test.true in omega arith
-
 pub loop-i-preserved : goal.loop-i-preserved
 loop-i-preserved c =
     let l = c.loop-i in

@@ -33,14 +33,14 @@ loop-w-smaller c = let a = c.args in
     let l = c.loop-w in
     let t = walk-on a.plan.now
     (λ i. (c.type_inv.plan i).fits) l.w _ l.invariant
-    (sym c.past_node.ensures ∙ c.in-To.is) in
+    (sym c.past_node.ensures ∙ c.in-Some.is) in
     omega (arith, t.1, t.0.inside)
 
 pub loop-w-preserved : goal.loop-w-preserved
 loop-w-preserved c = let a = c.args in
     let l = c.loop-w in
     (walk-on a.plan.now (λ i. (c.type_inv.plan i).fits)
-    l.w _ l.invariant (sym c.past_node.ensures ∙ c.in-To.is)).0
+    l.w _ l.invariant (sym c.past_node.ensures ∙ c.in-Some.is)).0
 
 pub returns : goal.returns
 returns c = let a = c.args in

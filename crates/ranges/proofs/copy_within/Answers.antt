@@ -1,5 +1,5 @@
 -- `ranges::copy_within` meets its contract: a range copied to its own place changes nothing. Assumes nothing.
-use native.Mathlib.Omega.{arith}
+use Rattle.std.proofs.Common.{arith}
 use Rattle.ranges.proofs.Moves.{moved_back}
 use Rattle.ranges.proofs.copy_within.Goals as goal
 

@@ -48,6 +48,3 @@ returns-in-Head c = rw c.in-Head.is (record { bytes = refl; place = (refl, omega
 
 pub returns-in-Pass : goal.returns-in-Pass
 returns-in-Pass c = rw c.in-Pass.is (record { bytes = refl; place = (refl, omega arith) })
-
-pub returns-in-Wrong : goal.returns-in-Wrong
-returns-in-Wrong c = rw c.in-Wrong.is (record { bytes = refl; place = (refl, omega arith) })

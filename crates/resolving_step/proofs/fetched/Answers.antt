@@ -1,7 +1,7 @@
 -- `resolving_step::fetched` meets its contract. Assumes nothing.
+use Rattle.std.specs.Prelude.{Option, ℤ}
 use mathlib.Core.Path.{sym, ap, ◌∙◌}
 use Rattle.buffer.specs.Part.{part}
-use Rattle.resp3_element.specs.declared.Integer.{Integer}
 use Rattle.resolving.specs.Store.{expiry_of}
 use Rattle.resolving_step.specs.Says as says
 use Rattle.resolving_step.proofs.fetched.Goals as goal
@@ -19,5 +19,5 @@ returns c =
     λ p w t v ts b u h m. says.fetched-kept p _ _ _ _ _ _ w t v b u c.requires.1
     c.requires.2 m
     (sym (c.is_error.ensures.value v m) ∙ c.if-is_error.false)
-    (c.expire_time-x.ensures ∙ ap (λ (i : Integer). expiry_of x.clock x.m.expiry i)
+    (c.expire_time-x.ensures ∙ ap (λ (i : Option ℤ). expiry_of x.clock x.m.expiry i)
     (c.number-t.ensures.value t (c.element.ensures.value t ts h)))

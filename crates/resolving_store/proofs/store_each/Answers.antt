@@ -1,5 +1,5 @@
 -- `resolving_store::store_each` meets its contract. Assumes nothing.
-use mathlib.Core.Path.{refl, sym, ◌∙◌}
+use mathlib.Core.Path.{refl, ◌∙◌}
 use native.Mathlib.Omega.{arith}
 use Rattle.resolving_passes.specs.Reached as reached
 use Rattle.resolving_store.specs.Laws as law
@@ -8,23 +8,23 @@ use Rattle.resolving_store.proofs.store_each.Goals as goal
 pub loop-c-init : goal.loop-c-init
 loop-c-init c = (λ ns es rs h. law.keep-start _ _ _ _ _ _ _ _ ns es rs h, c.requires.2, refl, refl)
 
-pub step_at-t-requires : goal.step_at-t-requires
-step_at-t-requires c =
+pub step_at-requires : goal.step_at-requires
+step_at-requires c =
     let b = c.requires.1 in
     let x = c.args in
     let k = c.loop-c.invariant.0 b.ns b.es b.rs b.starts in
     reached.step-ready _ _ x.mode x.when.clock _ k.reached.rest c.loop-c-test.true
 
-pub shape_of-arena-then-is_wrong : goal.shape_of-arena-then-is_wrong
-shape_of-arena-then-is_wrong c = c.loop-c.invariant.2
+pub shape_of-arena-in_default : goal.shape_of-arena-in_default
+shape_of-arena-in_default c = c.loop-c.invariant.2
 
-pub shape_of-seen-then-is_wrong : goal.shape_of-seen-then-is_wrong
-shape_of-seen-then-is_wrong c = c.loop-c.invariant.3
+pub shape_of-seen-in_default : goal.shape_of-seen-in_default
+shape_of-seen-in_default c = c.loop-c.invariant.3
 
-pub returns-then-is_wrong : goal.returns-then-is_wrong
-returns-then-is_wrong c =
-    λ ns es rs h. law.keep-wrong _ _ _ _ _ _ _ _ _ _ _ _ c.loop-c-test.true c.step_at-t.ensures
-    (sym c.is_wrong.ensures ∙ c.if-is_wrong.true) (c.loop-c.invariant.0 ns es rs h)
+pub returns-in_default : goal.returns-in_default
+returns-in_default c =
+    λ ns es rs h. law.keep-wrong _ _ _ _ _ _ _ _ _ _ _ c.loop-c-test.true (rw c.in_default.is at c.step_at.ensures)
+    (c.loop-c.invariant.0 ns es rs h)
 
 pub keep-refused-requires : goal.keep-refused-requires
 keep-refused-requires c =
@@ -32,7 +32,7 @@ keep-refused-requires c =
     let l = c.loop-c in
     let k = l.invariant.0 b.ns b.es b.rs b.starts in
     let z = reached.stepped _ _ _ _ _ _ _ _ _ k.reached c.loop-c-test.true
-    c.step_at-t.ensures in
+    (rw c.in-Some.is at c.step_at.ensures) in
     (law.stores-arena _ _ _ _ _ _ k.stores c.requires.0, z.inside, z.storable, l.invariant.1)
 
 pub overflow_add-refused : goal.overflow_add-refused
@@ -47,17 +47,13 @@ loop-c-smaller c =
     let b = c.requires.1 in
     let k = c.loop-c.invariant.0 b.ns b.es b.rs b.starts in
     let z = reached.stepped _ _ _ _ _ _ _ _ _ k.reached c.loop-c-test.true
-    c.step_at-t.ensures in
-    let w = sym c.is_wrong.ensures
-    ∙ c.if-is_wrong.false in
-    omega (arith, z.far w, z.near w)
+    (rw c.in-Some.is at c.step_at.ensures) in
+    omega (arith, z.far, z.near)
 
 pub loop-c-preserved : goal.loop-c-preserved
 loop-c-preserved c = (
   λ ns es rs h. law.keep-step _ _ _ _ _ _ _ _ _ _ _ _ _ _ c.loop-c-test.true
-      c.step_at-t.ensures
-      (sym c.is_wrong.ensures
-      ∙ c.if-is_wrong.false)
+      (rw c.in-Some.is at c.step_at.ensures)
       c.keep-refused.ensures.0 c.keep-refused.ensures.1
       (c.loop-c.invariant.0 ns es rs h),
   c.keep-refused.ensures.2,

@@ -1,5 +1,7 @@
 -- `resolving_store::store_one` meets its contract. Assumes nothing.
+use mathlib.Core.Path.{ap}
 use native.Mathlib.Omega.{arith}
+use Rattle.std.specs.Prelude.{is_ok}
 use Rattle.buffer.specs.Part.{part}
 use Rattle.resolving_step.specs.Steps.{keeping}
 use Rattle.resolving_store.specs.Laws as law
@@ -12,16 +14,16 @@ insert-kept-requires c =
     let i = law.insertable _ p.4 in
     (p.0, i.0, i.1, p.5)
 
-pub returns-then-kept : goal.returns-then-kept
+pub returns-in-Ok : goal.returns-in-Ok
 unfolding part
-returns-then-kept c =
+returns-in-Ok c =
     let x = c.args in
     let e = c.insert-kept.ensures in
-    (law.stores-kept _ _ (keeping x.plan.now x.list.now x.m x.from x.to) _ _ _ c.if-kept.true e.0, omega arith, e.1)
+    (law.stores-kept _ _ (keeping x.plan.now x.list.now x.m x.from x.to) _ _ _ (ap is_ok c.in-Ok.is) e.0, omega arith, e.1)
 
-pub returns-else-kept : goal.returns-else-kept
+pub returns-in-Err : goal.returns-in-Err
 unfolding part
-returns-else-kept c =
+returns-in-Err c =
     let x = c.args in
     let e = c.insert-kept.ensures in
-    (law.stores-refused _ _ (keeping x.plan.now x.list.now x.m x.from x.to) _ _ _ c.if-kept.false e.0, omega arith, e.1)
+    (law.stores-refused _ _ (keeping x.plan.now x.list.now x.m x.from x.to) _ _ _ (ap is_ok c.in-Err.is) e.0, omega arith, e.1)

@@ -7,8 +7,5 @@ use Rattle.resp3.proofs.+value_end.Given as goal
 abbrev pub decreases-value_end : goal.decreases-value_end
 decreases-value_end l = l.depth
 
-abbrev pub invariant-loop-left : goal.invariant-loop-left
-invariant-loop-left l = value_end l.depth l.s l.at ≡ items_end (l.depth - 1) l.s l.left l.q
-
-abbrev pub decreases-loop-left : goal.decreases-loop-left
-decreases-loop-left l = l.left
+abbrev pub invariant-loop : goal.invariant-loop
+invariant-loop l = value_end l.depth l.s l.at ≡ items_end (l.depth - 1) l.s (l.n - l.counter) l.q

@@ -19,15 +19,15 @@ pub returns-in_default : goal.returns-in_default
 returns-in_default c = λ e. absurd (false≢true e)
 
 pub overflow_add-end : goal.overflow_add-end
-overflow_add-end c = let k = num-bounds _ _ _ _ _ (sym c.read_num.ensures ∙ c.in-Val.is) in omega arith
+overflow_add-end c = let k = num-bounds _ _ _ _ _ (sym c.read_num.ensures ∙ c.in-Some.is) in omega arith
 
 pub overflow_add-end-2 : goal.overflow_add-end-2
-overflow_add-end-2 c = let k = num-bounds _ _ _ _ _ (sym c.read_num.ensures ∙ c.in-Val.is) in omega arith
+overflow_add-end-2 c = let k = num-bounds _ _ _ _ _ (sym c.read_num.ensures ∙ c.in-Some.is) in omega arith
 
 pub returns-then-end-to : goal.returns-then-end-to
 returns-then-end-to c = λ e. absurd (false≢true e)
 
 pub returns : goal.returns
 returns c e =
-    let found = sym c.read_num.ensures ∙ c.in-Val.is in
+    let found = sym c.read_num.ensures ∙ c.in-Some.is in
     blob-value _ _ _ _ _ _ (omega arith) (omega arith) (omega arith) c.if-s-from-ne36.false found c.if-end-to.false (sym c.crlf_at.ensures ∙ e)

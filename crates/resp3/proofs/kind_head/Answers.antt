@@ -1,10 +1,10 @@
 -- `resp3::kind_head` meets its contract: an answer for each shape. Assumes nothing.
+use Rattle.std.specs.Prelude.{Option}
 use mathlib.Core.Path.{◌≡◌, sym, ap, ◌∙◌}
 use Prim.Native.Nat.{ℕ, ◌+◌}
 use native.Mathlib.Omega.{arith}
 use lib.ListN.{get_or}
 use Rattle.buffer.specs.Same.{Bytes}
-use Rattle.decimal.specs.declared.Num.{Num}
 use Rattle.resp3.specs.declared.Kind.{Kind}
 use Rattle.resp3.specs.declared.Shape.{Shape}
 use Rattle.resp3.specs.Kinds.{kind_of, shape_of}
@@ -19,77 +19,74 @@ shaped s at a b k f g h = paths.head-is _ _ k (sym (g ∙ ap shape_of f) ∙ h)
 pub returns-then-at-s : goal.returns-then-at-s
 returns-then-at-s c = sym (paths.kind-out _ _ c.if-at-s.true)
 
-pub returns-in_default : goal.returns-in_default
+pub returns-in-List : goal.returns-in-List
 unfolding body_head
-returns-in_default c =
-    sym (shaped _ _ _ _ _ c.kind_of.ensures c.shape_of-shape.ensures c.in-List.is
-    ∙ ap (λ (x : Num). count_of x (λ n. n)) (sym c.length_at.ensures ∙ c.in_default.is))
+returns-in-List c =
+    c.length_at.ensures ∙ sym (shaped _ _ _ _ _ c.from.ensures c.shape_of.ensures c.in-List.is ∙ paths.count-all _)
 
-pub returns-in_default-length_at : goal.returns-in_default-length_at
+pub returns-in_err-n-in-Pairs : goal.returns-in_err-n-in-Pairs
 unfolding body_head
-returns-in_default-length_at c =
-    sym (shaped _ _ _ _ _ c.kind_of.ensures c.shape_of-shape.ensures c.in-Pairs.is
-    ∙ ap (λ (x : Num). count_of x (λ n. n + n)) (sym c.length_at-in-Pairs.ensures ∙ c.in_default-length_at.is))
+returns-in_err-n-in-Pairs c =
+    c.from_residual.ensures ∙ sym (shaped _ _ _ _ _ c.from.ensures c.shape_of.ensures c.in-Pairs.is
+    ∙ ap (λ (x : Option (ℕ × ℕ)). count_of x (λ n. n + n)) (sym c.length_at-in-Pairs.ensures ∙ c.in_err-n-in-Pairs.was))
 
 pub overflow_add-result : goal.overflow_add-result
-overflow_add-result c = let k = paths.length-bounds _ _ _ _ (sym c.length_at-in-Pairs.ensures ∙ c.in-Val-length_at.is) in omega arith
+overflow_add-result c = let k = paths.length-bounds _ _ _ _ (sym c.length_at-in-Pairs.ensures ∙ c.in_ok-n-in-Pairs.was) in omega arith
 
-pub returns-in_default-length_at-2 : goal.returns-in_default-length_at-2
+pub returns-in_err-n-in-PairsAndValue : goal.returns-in_err-n-in-PairsAndValue
 unfolding body_head
-returns-in_default-length_at-2 c =
-    sym (shaped _ _ _ _ _ c.kind_of.ensures c.shape_of-shape.ensures c.in-PairsAndValue.is
-    ∙ ap (λ (x : Num). count_of x (λ n. n + n + 1)) (sym c.length_at-in-PairsAndValue.ensures ∙ c.in_default-length_at-2.is))
+returns-in_err-n-in-PairsAndValue c =
+    c.from_residual-in_err-n-in-PairsAndValue.ensures ∙ sym (shaped _ _ _ _ _ c.from.ensures c.shape_of.ensures c.in-PairsAndValue.is
+    ∙ ap (λ (x : Option (ℕ × ℕ)). count_of x (λ n. n + n + 1)) (sym c.length_at-in-PairsAndValue.ensures ∙ c.in_err-n-in-PairsAndValue.was))
 
 pub overflow_add-result-in-PairsAndValue : goal.overflow_add-result-in-PairsAndValue
-overflow_add-result-in-PairsAndValue c = let k = paths.length-bounds _ _ _ _ (sym c.length_at-in-PairsAndValue.ensures ∙ c.in-Val-length_at-2.is) in omega arith
+overflow_add-result-in-PairsAndValue c =
+    let k = paths.length-bounds _ _ _ _ (sym c.length_at-in-PairsAndValue.ensures ∙ c.in_ok-n-in-PairsAndValue.was) in
+    omega arith
 
 pub overflow_add-result-in-PairsAndValue-2 : goal.overflow_add-result-in-PairsAndValue-2
-overflow_add-result-in-PairsAndValue-2 c = let k = paths.length-bounds _ _ _ _ (sym c.length_at-in-PairsAndValue.ensures ∙ c.in-Val-length_at-2.is) in omega arith
+overflow_add-result-in-PairsAndValue-2 c =
+    let k = paths.length-bounds _ _ _ _ (sym c.length_at-in-PairsAndValue.ensures ∙ c.in_ok-n-in-PairsAndValue.was) in
+    omega arith
 
 pub returns-in-Blob : goal.returns-in-Blob
 unfolding body_head
-returns-in-Blob c = c.alone.ensures ∙ ap alone_of c.blob_end.ensures ∙ sym (shaped _ _ _ _ _ c.kind_of.ensures c.shape_of-shape.ensures c.in-Blob.is)
+returns-in-Blob c = c.alone.ensures ∙ ap alone_of c.blob_end.ensures ∙ sym (shaped _ _ _ _ _ c.from.ensures c.shape_of.ensures c.in-Blob.is)
 
 pub returns-in-Line : goal.returns-in-Line
 unfolding body_head
-returns-in-Line c = c.alone-in-Line.ensures ∙ ap alone_of c.line_end.ensures ∙ sym (shaped _ _ _ _ _ c.kind_of.ensures c.shape_of-shape.ensures c.in-Line.is)
+returns-in-Line c = c.alone-in-Line.ensures ∙ ap alone_of c.line_end.ensures ∙ sym (shaped _ _ _ _ _ c.from.ensures c.shape_of.ensures c.in-Line.is)
 
 pub returns-in-Integer : goal.returns-in-Integer
 unfolding body_head
 returns-in-Integer c =
-    c.alone-in-Integer.ensures ∙ ap alone_of c.number_end.ensures ∙ sym (shaped _ _ _ _ _ c.kind_of.ensures c.shape_of-shape.ensures c.in-Integer.is)
+    c.alone-in-Integer.ensures ∙ ap alone_of c.number_end.ensures ∙ sym (shaped _ _ _ _ _ c.from.ensures c.shape_of.ensures c.in-Integer.is)
 
 pub returns-in-Empty : goal.returns-in-Empty
 unfolding body_head
-returns-in-Empty c = c.alone-in-Empty.ensures ∙ ap alone_of c.crlf_end.ensures ∙ sym (shaped _ _ _ _ _ c.kind_of.ensures c.shape_of-shape.ensures c.in-Empty.is)
+returns-in-Empty c = c.alone-in-Empty.ensures ∙ ap alone_of c.crlf_end.ensures ∙ sym (shaped _ _ _ _ _ c.from.ensures c.shape_of.ensures c.in-Empty.is)
 
 pub returns-in-Flag : goal.returns-in-Flag
 unfolding body_head
-returns-in-Flag c = c.alone-in-Flag.ensures ∙ ap alone_of c.boolean_end.ensures ∙ sym (shaped _ _ _ _ _ c.kind_of.ensures c.shape_of-shape.ensures c.in-Flag.is)
+returns-in-Flag c = c.alone-in-Flag.ensures ∙ ap alone_of c.boolean_end.ensures ∙ sym (shaped _ _ _ _ _ c.from.ensures c.shape_of.ensures c.in-Flag.is)
 
 pub returns-in-Verbatim : goal.returns-in-Verbatim
 unfolding body_head
 returns-in-Verbatim c =
-    c.alone-in-Verbatim.ensures ∙ ap alone_of c.verbatim_end.ensures ∙ sym (shaped _ _ _ _ _ c.kind_of.ensures c.shape_of-shape.ensures c.in-Verbatim.is)
+    c.alone-in-Verbatim.ensures ∙ ap alone_of c.verbatim_end.ensures ∙ sym (shaped _ _ _ _ _ c.from.ensures c.shape_of.ensures c.in-Verbatim.is)
 
-pub returns-in-Val : goal.returns-in-Val
+pub returns-in_ok-n-in-Pairs : goal.returns-in_ok-n-in-Pairs
 unfolding body_head
-returns-in-Val c =
-    sym (shaped _ _ _ _ _ c.kind_of.ensures c.shape_of-shape.ensures c.in-List.is
-    ∙ ap (λ (x : Num). count_of x (λ n. n)) (sym c.length_at.ensures ∙ c.in-Val.is))
+returns-in_ok-n-in-Pairs c =
+    sym (shaped _ _ _ _ _ c.from.ensures c.shape_of.ensures c.in-Pairs.is
+    ∙ ap (λ (x : Option (ℕ × ℕ)). count_of x (λ n. n + n)) (sym c.length_at-in-Pairs.ensures ∙ c.in_ok-n-in-Pairs.was))
 
-pub returns-in-Val-length_at : goal.returns-in-Val-length_at
+pub returns-in_ok-n-in-PairsAndValue : goal.returns-in_ok-n-in-PairsAndValue
 unfolding body_head
-returns-in-Val-length_at c =
-    sym (shaped _ _ _ _ _ c.kind_of.ensures c.shape_of-shape.ensures c.in-Pairs.is
-    ∙ ap (λ (x : Num). count_of x (λ n. n + n)) (sym c.length_at-in-Pairs.ensures ∙ c.in-Val-length_at.is))
-
-pub returns-in-Val-length_at-2 : goal.returns-in-Val-length_at-2
-unfolding body_head
-returns-in-Val-length_at-2 c =
-    sym (shaped _ _ _ _ _ c.kind_of.ensures c.shape_of-shape.ensures c.in-PairsAndValue.is
-    ∙ ap (λ (x : Num). count_of x (λ n. n + n + 1)) (sym c.length_at-in-PairsAndValue.ensures ∙ c.in-Val-length_at-2.is))
+returns-in_ok-n-in-PairsAndValue c =
+    sym (shaped _ _ _ _ _ c.from.ensures c.shape_of.ensures c.in-PairsAndValue.is
+    ∙ ap (λ (x : Option (ℕ × ℕ)). count_of x (λ n. n + n + 1)) (sym c.length_at-in-PairsAndValue.ensures ∙ c.in_ok-n-in-PairsAndValue.was))
 
 pub returns-in-Nothing : goal.returns-in-Nothing
 unfolding body_head
-returns-in-Nothing c = sym (shaped _ _ _ _ _ c.kind_of.ensures c.shape_of-shape.ensures c.in-Nothing.is)
+returns-in-Nothing c = sym (shaped _ _ _ _ _ c.from.ensures c.shape_of.ensures c.in-Nothing.is)

@@ -11,5 +11,5 @@ returns-then-null_word_at c =
 
 pub returns : goal.returns
 returns c =
-    let e = c.kind_of.ensures ∙ ap kind_of c.first_byte.ensures ∙ sym (law.kind-own _ (sym c.null_word_at.ensures ∙ c.if-null_word_at.false)) in
+    let e = c.from.ensures ∙ ap kind_of c.first_byte.ensures ∙ sym (law.kind-own _ (sym c.null_word_at.ensures ∙ c.if-null_word_at.false)) in
     record { value = λ v m. e ∙ law.kind-law _ v m; any = e }

@@ -13,14 +13,14 @@ returns-in_default c =
     sym (paths.range-is _ _ (sym c.first_byte.ensures ∙ c.if-first_byte-ne36.false) (sym c.length_at.ensures ∙ c.in_default.is))
 
 pub overflow_sub-s : goal.overflow_sub-s
-overflow_sub-s c = let k = length-bounds _ _ _ _ (sym c.length_at.ensures ∙ c.in-Val.is) in omega arith
+overflow_sub-s c = let k = length-bounds _ _ _ _ (sym c.length_at.ensures ∙ c.in-Some.is) in omega arith
 
 pub returns-then-n-s : goal.returns-then-n-s
 returns-then-n-s c =
     sym (paths.range-is _ _ (sym c.first_byte.ensures ∙ c.if-first_byte-ne36.false)
-    (sym c.length_at.ensures ∙ c.in-Val.is) ∙ paths.range-past _ _ _ c.if-n-s.true)
+    (sym c.length_at.ensures ∙ c.in-Some.is) ∙ paths.range-past _ _ _ c.if-n-s.true)
 
 pub returns : goal.returns
 returns c =
     sym (paths.range-is _ _ (sym c.first_byte.ensures ∙ c.if-first_byte-ne36.false)
-    (sym c.length_at.ensures ∙ c.in-Val.is) ∙ paths.range-in _ _ _ c.if-n-s.false)
+    (sym c.length_at.ensures ∙ c.in-Some.is) ∙ paths.range-in _ _ _ c.if-n-s.false)

@@ -4,8 +4,8 @@ use Rattle.resp3_vectors.proofs.describe.Goals as goal
 
 pub put_list-requires : goal.put_list-requires
 put_list-requires g c =
-    standing _ _ _ _ c.in-Of.is (c.array.ensures.value c.requires.v c.requires.means)
+    standing _ _ _ _ c.in-Some-array.is (c.array.ensures.value c.requires.v c.requires.means)
 
-pub put_list-requires-in-Of-push : goal.put_list-requires-in-Of-push
-put_list-requires-in-Of-push g c =
-    standing _ _ _ _ c.in-Of-push.is (c.push.ensures.value c.requires.v c.requires.means)
+pub put_list-requires-in-Some-push : goal.put_list-requires-in-Some-push
+put_list-requires-in-Some-push g c =
+    standing _ _ _ _ c.in-Some-push.is (c.push.ensures.value c.requires.v c.requires.means)

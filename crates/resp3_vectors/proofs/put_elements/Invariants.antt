@@ -1,9 +1,8 @@
--- `resp3_vectors::put_elements` meets its contract. The cursor stands before some of the elements, fewer with each turn. Assumes nothing.
+-- `resp3_vectors::put_elements` meets its contract. The cursor stands before as many of the elements as there are turns left. Assumes nothing.
+use mathlib.Core.Path.{◌≡◌}
+use Prim.Native.Nat.{◌+◌}
 use Rattle.resp3_vectors.specs.Standing.{Standing}
 use Rattle.resp3_vectors.proofs.put_elements.Given as goal
 
-abbrev pub invariant-loop-c : goal.invariant-loop-c
-invariant-loop-c g l = Standing l.s l.c
-
-abbrev pub decreases-loop-c : goal.decreases-loop-c
-decreases-loop-c g l = l.c.left
+abbrev pub invariant-loop : goal.invariant-loop
+invariant-loop g l = Standing l.s l.c × (l.c.left + l.counter ≡ l.fn.first.left)

@@ -1,11 +1,7 @@
--- `resp3_vectors::unescape` is safe and ends: it writes within the buffer. Assumes nothing.
-use mathlib.Core.Path.{◌≡◌}
-use Prim.Native.Nat.{◌≤◌, ◌-◌}
+-- `resp3_vectors::unescape` is safe: it writes within the buffer. Assumes nothing.
+use Prim.Native.Nat.{◌≤◌}
 use lib.ListN.{length}
 use Rattle.resp3_vectors.proofs.unescape.Given as goal
 
-abbrev pub invariant-loop-n : goal.invariant-loop-n
-invariant-loop-n l = (l.n ≤ length l.out) × (length l.out ≡ length l.initial.out)
-
-abbrev pub decreases-loop-n : goal.decreases-loop-n
-decreases-loop-n l = length l.out - l.n
+abbrev pub invariant-loop-b : goal.invariant-loop-b
+invariant-loop-b l = l.n ≤ length l.out

@@ -5,33 +5,33 @@ use Rattle.book.proofs.Rows.{without-absent}
 use Rattle.arena.specs.Layout.{enc_shard}
 use Rattle.shard.specs.Holds.{Holds}
 use Rattle.shard.proofs.Items.{KeyAt, key-at, item-at, no_item}
-use Rattle.shard.proofs.invalidate_in.Goals.{In-At}
+use Rattle.shard.proofs.invalidate_in.Goals.{In-Some}
 use Rattle.shard.proofs.invalidate_in.Goals as goal
 
 -- the key's item
-key : (c : In-At) (row : Row)
+key : (c : In-Some) (row : Row)
     → let a = c.args in
-    Holds a.s.now row → KeyAt a.s.now a.key.now row c.in-At.at
-key c row h = key-at h (sym (c.find.ensures row h) ∙ c.in-At.is)
+    Holds a.s.now row → KeyAt a.s.now a.key.now row c.in-Some.at
+key c row h = key-at h (sym (c.find.ensures row h) ∙ c.in-Some.is)
 
 pub entry_count-dropped-requires : goal.entry_count-dropped-requires
-entry_count-dropped-requires c = let h = c.requires.holds in item-at (key (goal.at.entry_count-dropped-requires c).In-At _ h)
+entry_count-dropped-requires c = let h = c.requires.holds in item-at (key (goal.at.entry_count-dropped-requires c).In-Some _ h)
 
 pub remove-requires : goal.remove-requires
 remove-requires c =
     let h = c.requires.holds in
-    item-at (key (goal.at.remove-requires c).In-At _ h)
+    item-at (key (goal.at.remove-requires c).In-Some _ h)
 
-pub returns-in-At : goal.returns-in-At
+pub returns-in-Some : goal.returns-in-Some
 unfolding entries_of
-returns-in-At c row h =
-    let g = key (goal.at.returns-in-At c).In-At row h in (
+returns-in-Some c row h =
+    let g = key (goal.at.returns-in-Some c).In-Some row h in (
       c.remove.ensures g.place.front g.place.back g.item g.stands ∙ ap (enc_shard _) (sym g.place.gone),
       c.entry_count-dropped.ensures g.place.front g.place.back g.item g.stands ∙ sym (ap entries_of g.is),
     )
 
-pub returns-in-Absent : goal.returns-in-Absent
+pub returns-in-None : goal.returns-in-None
 unfolding entries_of
-returns-in-Absent c row h =
-    let n = no_item 16 _ row (sym (c.find.ensures row h) ∙ c.in-Absent.is) in
+returns-in-None c row h =
+    let n = no_item 16 _ row (sym (c.find.ensures row h) ∙ c.in-None.is) in
     (h.is ∙ ap (enc_shard _) (sym (without-absent _ row n)), sym (ap entries_of n))

@@ -11,22 +11,22 @@ use Rattle.shard.proofs.Fields.{fields, pieces}
 use Rattle.shard.specs.Holds.{Holds}
 use Rattle.shard.proofs.Items.{KeyAt, key-at, item-at, no_item}
 use Rattle.shard_lookup.proofs.Lookups.{finds-none, finds-stale, finds-bare, finds-value, tells-miss, tells-hit}
-use Rattle.shard_lookup.proofs.peek_in.Goals.{In-At, In-Value}
+use Rattle.shard_lookup.proofs.peek_in.Goals.{In-Some, In-Value}
 use Rattle.shard_lookup.proofs.peek_in.Goals as goal
 
 -- the key's item
-key : (c : In-At) (row : Row)
+key : (c : In-Some) (row : Row)
     → let a = c.args in
-    Holds a.s.now row → KeyAt a.s.now a.key.now row c.in-At.at
-key c row h = key-at h (sym (c.find.ensures row h) ∙ c.in-At.is)
+    Holds a.s.now row → KeyAt a.s.now a.key.now row c.in-Some.at
+key c row h = key-at h (sym (c.find.ensures row h) ∙ c.in-Some.is)
 
 -- the value lies within the bytes
 value-ends : (c : In-Value)
-    → c.in-At.at + (c.in-Value.skip + c.in-Value.len) < 256 ^ 4
+    → c.in-Some.at + (c.in-Value.skip + c.in-Value.len) < 256 ^ 4
 value-ends c =
     let a = c.args in
     let h = c.requires.0.holds in
-    let g = key-at h (sym (c.find.ensures _ h) ∙ c.in-At.is) in
+    let g = key-at h (sym (c.find.ensures _ h) ∙ c.in-Some.is) in
     let v = subst (λ (r : Reading). Reads a.when.clock a.when.epoch (key_bytes a.source.now a.command) g.item r) c.in-Value.is
     (c.read_item.ensures g.place.front g.place.back g.item g.stands) in
     let m = v.1 in
@@ -41,12 +41,12 @@ returns-in_default c row h =
 pub read_item-requires : goal.read_item-requires
 read_item-requires c =
     let h = c.requires.0.holds in
-    (item-at (key (goal.at.read_item-requires c).In-At _ h), c.requires.1)
+    (item-at (key (goal.at.read_item-requires c).In-Some _ h), c.requires.1)
 
 pub entry_count-requires : goal.entry_count-requires
 entry_count-requires c =
     let h = c.requires.0.holds in
-    item-at (key (goal.at.entry_count-requires c).In-At _ h)
+    item-at (key (goal.at.entry_count-requires c).In-Some _ h)
 
 pub overflow_add-result : goal.overflow_add-result
 overflow_add-result c = let e = value-ends (goal.at.overflow_add-result c).In-Value in omega arith
@@ -59,7 +59,7 @@ overflow_add-result-in-Value-2 c = let e = value-ends (goal.at.overflow_add-resu
 
 pub returns-in-Stale : goal.returns-in-Stale
 returns-in-Stale c row h =
-    let g = key (goal.at.returns-in-Stale c).In-At _ h in
+    let g = key (goal.at.returns-in-Stale c).In-Some _ h in
     let a = c.args in
     let v = subst (λ (r : Reading). Reads a.when.clock a.when.epoch (key_bytes a.source.now a.command) g.item r)
     c.in-Stale.is
@@ -69,7 +69,7 @@ returns-in-Stale c row h =
 
 pub returns-in-Bare : goal.returns-in-Bare
 returns-in-Bare c row h =
-    let g = key (goal.at.returns-in-Bare c).In-At _ h in
+    let g = key (goal.at.returns-in-Bare c).In-Some _ h in
     let a = c.args in
     let v = subst (λ (r : Reading). Reads a.when.clock a.when.epoch (key_bytes a.source.now a.command) g.item r) c.in-Bare.is
     (c.read_item.ensures g.place.front g.place.back g.item g.stands) in
@@ -77,7 +77,7 @@ returns-in-Bare c row h =
 
 pub returns-in-Value : goal.returns-in-Value
 returns-in-Value c row h =
-    let g = key (goal.at.returns-in-Value c).In-At _ h in
+    let g = key (goal.at.returns-in-Value c).In-Some _ h in
     let a = c.args in
     let v = subst (λ (r : Reading). Reads a.when.clock a.when.epoch (key_bytes a.source.now a.command) g.item r) c.in-Value.is
     (c.read_item.ensures g.place.front g.place.back g.item g.stands) in

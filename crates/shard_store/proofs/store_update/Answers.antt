@@ -19,14 +19,14 @@ pub entry_len-requires : goal.entry_len-requires
 entry_len-requires c =
     let w = c.requires.0.stands in
     let g = set-in w c.args.command.now
-    (sym (c.find_entry.ensures _ _ _ w) ∙ c.in-At.is) in
+    (sym (c.find_entry.ensures _ _ _ w) ∙ c.in-Some.is) in
     record { entry = g.entry; stands = entry-of w g }
 
 pub overflow_add-to : goal.overflow_add-to
 overflow_add-to c =
     let w = c.requires.0.stands in
     let g = set-in w c.args.command.now
-    (sym (c.find_entry.ensures _ _ _ w) ∙ c.in-At.is) in
+    (sym (c.find_entry.ensures _ _ _ w) ∙ c.in-Some.is) in
     let e = c.entry_len.ensures g.entry (entry-of w g) in
     let f = entry-fields (entry-of w g) in
     omega arith
@@ -35,7 +35,7 @@ pub store_entry-requires : goal.store_entry-requires
 store_entry-requires c =
     let w = c.requires.0.stands in
     let g = set-in w c.args.command.now
-    (sym (c.find_entry.ensures _ _ _ w) ∙ c.in-At.is) in
+    (sym (c.find_entry.ensures _ _ _ w) ∙ c.in-Some.is) in
     let e = c.entry_len.ensures g.entry (entry-of w g) in (
       record { front = _; back = _; item = _; ef = g.front; em = g.entry ∷ []; eb = g.back; replaces = at-replaces w g _ (omega arith) },
       c.requires.1,
@@ -49,8 +49,8 @@ overflow_add-end c =
     let e = c.item_len.ensures _ _ _ w in
     omega arith
 
-pub store_entry-requires-in-Absent : goal.store_entry-requires-in-Absent
-store_entry-requires-in-Absent c =
+pub store_entry-requires-in-None : goal.store_entry-requires-in-None
+store_entry-requires-in-None c =
     let w = c.requires.0.stands in
     let e = c.item_len.ensures _ _ _ w in (
       record {
@@ -67,22 +67,22 @@ store_entry-requires-in-Absent c =
       c.requires.2,
     )
 
-pub returns-in-At : goal.returns-in-At
-returns-in-At c front back it w =
+pub returns-in-Some : goal.returns-in-Some
+returns-in-Some c front back it w =
     let a = c.args in
     let g = set-in w a.command.now
     (sym (c.find_entry.ensures front back it w)
-    ∙ c.in-At.is) in
+    ∙ c.in-Some.is) in
     let e = c.entry_len.ensures g.entry (entry-of w g) in
     let p = c.store_entry.ensures front back it g.front (g.entry ∷ []) g.back (at-replaces w g _ (omega arith)) in
     same_rows (length a.s.now) (entries-same front back it a.expiry (sym (g.set a.value.now))) refl p
 
-pub returns-in-Absent : goal.returns-in-Absent
-returns-in-Absent c front back it w =
+pub returns-in-None : goal.returns-in-None
+returns-in-None c front back it w =
     let a = c.args in
     let n = none_in w a.command.now
     (sym (c.find_entry.ensures front back it w)
-    ∙ c.in-Absent.is) in
+    ∙ c.in-None.is) in
     let e = c.item_len.ensures front back it w in
-    let p = c.store_entry-in-Absent.ensures front back it it.entries [] [] (end-replaces w _ (omega arith)) in
+    let p = c.store_entry-in-None.ensures front back it it.entries [] [] (end-replaces w _ (omega arith)) in
     same_rows (length a.s.now) (entries-same front back it a.expiry (sym (set_new a.command.now a.value.now it.entries n))) refl p

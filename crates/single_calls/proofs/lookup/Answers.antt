@@ -6,16 +6,16 @@ use Rattle.single_calls.proofs.Ways.{not-admitted, is-admitted, place-admitted, 
 use Rattle.single_calls.proofs.lookup.Goals as goal
 
 pub lookup_admitted-requires : goal.lookup_admitted-requires
-lookup_admitted-requires c = enter _ _ _ _ _ (sym c.admit.ensures ∙ c.in-Admits.is)
+lookup_admitted-requires c = enter _ _ _ _ _ (sym c.admit.ensures ∙ c.in-Ok.is)
 
-pub returns-in-Refused : goal.returns-in-Refused
-returns-in-Refused c next =
-    let e = sym c.admit.ensures ∙ c.in-Refused.is in
+pub returns-in-Err : goal.returns-in-Err
+returns-in-Err c next =
+    let e = sym c.admit.ensures ∙ c.in-Err.is in
     let r = not-admitted _ _ _ _ _ _ _ next e in
     lookup-refused _ _ (not-admitted-cause _ _ _ _ _ e) _ _ _ _ r (no_place _ _ _ _ _ _ _ _ _ _ r)
 
-pub returns-in-Admits : goal.returns-in-Admits
-returns-in-Admits c next =
+pub returns-in-Ok : goal.returns-in-Ok
+returns-in-Ok c next =
     let w = admits _ _ _ _ _
-    (sym c.admit.ensures ∙ c.in-Admits.is) in
+    (sym c.admit.ensures ∙ c.in-Ok.is) in
     rw (is-admitted _ _ _ _ _ _ _ next w, place-admitted _ _ _ _ _ _ _ _ _ _ next w) (c.lookup_admitted.ensures _ next w.lent)

@@ -1,6 +1,7 @@
 -- `single_calls::store_admitted` meets its contract: one law for each way out. Assumes nothing.
 use mathlib.Core.Path.{refl, sym, ap, ◌∙◌}
 use mathlib.Core.Bool.{not}
+use Rattle.std.specs.Prelude.{is_ok}
 use Rattle.single_calls.specs.Single.{overlong, wrong_bytes}
 use Rattle.single_calls.specs.AsCallLaws.{not-overlong}
 use Rattle.single_calls.proofs.Ways.{too_long_lem, bad-bytes, left-refused, store-left}
@@ -27,22 +28,22 @@ insert-requires c = (
       ∙ c.if-not-is_value.false,
 )
 
-pub returns-then-insert : goal.returns-then-insert
+pub returns-in-Ok : goal.returns-in-Ok
 unfolding overlong wrong_bytes
-returns-then-insert c rows lent next w =
+returns-in-Ok c rows lent next w =
     let r = c.insert.ensures rows w in
     store-left _ _ _ rows _ next c.insert.auto.arena r.0
     (sym c.too_long.ensures
     ∙ c.if-too_long.false)
     (ap not (sym c.is_value.ensures ∙ c.if-not-is_value.false)) lent _ _
-    c.if-insert.true r.1
+    (ap is_ok c.in-Ok.is) r.1
 
-pub returns : goal.returns
+pub returns-in-Err : goal.returns-in-Err
 unfolding overlong wrong_bytes
-returns c rows lent next w =
+returns-in-Err c rows lent next w =
     let r = c.insert.ensures rows w in
     store-left _ _ _ rows _ next c.insert.auto.arena r.0
     (sym c.too_long.ensures
     ∙ c.if-too_long.false)
     (ap not (sym c.is_value.ensures ∙ c.if-not-is_value.false)) lent _ _
-    c.if-insert.false r.1
+    (ap is_ok c.in-Err.is) r.1

@@ -13,26 +13,26 @@ returns-then-bytes-gt-MAX_RECORD c = let a = c.args in (laws.record-long a.bytes
 
 pub send_admitted-requires : goal.send_admitted-requires
 send_admitted-requires c =
-    let w = enter 4 0 1800000 _ _ (sym c.admit.ensures ∙ c.in-Admits.is) in
+    let w = enter 4 0 1800000 _ _ (sym c.admit.ensures ∙ c.in-Ok.is) in
     (w, omega arith, zeros-blank _ _ w (laws.fresh-zeros _ c.setup.ensures.bytes))
 
-pub returns-in-Refused : goal.returns-in-Refused
-returns-in-Refused c =
+pub returns-in-Err : goal.returns-in-Err
+returns-in-Err c =
     let a = c.args in (
       laws.cache-refused a.bytes.now a.out.now (omega arith) _
           (c.setup.ensures.bytes ∙ laws.empty-set-up (replicate {A = ℕ} 64 0) refl) _
-          (sym c.admit.ensures ∙ c.in-Refused.is),
+          (sym c.admit.ensures ∙ c.in-Err.is),
       tt,
     )
 
-pub returns-in-Admits : goal.returns-in-Admits
-returns-in-Admits c =
+pub returns-in-Ok : goal.returns-in-Ok
+returns-in-Ok c =
     let a = c.args in
     let e = c.send_admitted.ensures in (
       laws.cache-admitted a.bytes.now a.out.now (omega arith) _
           (c.setup.ensures.bytes
           ∙ laws.empty-set-up (replicate {A = ℕ} 64 0) refl) _
           (sym c.admit.ensures
-          ∙ c.in-Admits.is) _ e.0,
+          ∙ c.in-Ok.is) _ e.0,
       e.1,
     )

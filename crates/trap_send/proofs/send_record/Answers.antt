@@ -1,5 +1,6 @@
 -- `trap_send::send_record` meets its contract. Assumes nothing.
-use mathlib.Core.Path.{sym, ◌∙◌}
+use mathlib.Core.Path.{sym, ap, ◌∙◌}
+use Rattle.std.specs.Prelude.{Option, is_none, ℕ}
 use Rattle.cursor.specs.At.{commands_of}
 use Rattle.cache_manager.specs.Fit.{fit}
 use Rattle.trap_send.specs.Walk.{ends-within}
@@ -26,8 +27,8 @@ returns-then-any_late c =
 pub is_transaction-transaction-requires : goal.is_transaction-transaction-requires
 is_transaction-transaction-requires c = (fit _ c.requires.2).room
 
-pub send_room-rest-requires : goal.send_room-rest-requires
-send_room-rest-requires c =
+pub send_room-requires : goal.send_room-requires
+send_room-requires c =
     let w = c.requires in
     let a = c.args in (
       laws.ahead a.bytes.now a.out.now a.arena.now a.g _ c.commands_of-k.ensures
@@ -36,15 +37,16 @@ send_room-rest-requires c =
       w.0,
     )
 
-pub returns-then-rest : goal.returns-then-rest
-returns-then-rest c =
-    let a = c.args in (
+pub returns-in_err-send_room : goal.returns-in_err-send_room
+returns-in_err-send_room c =
+    let a = c.args in
+    rw c.from_residual.ensures (
       λ rows n next o. laws.record-short a.bytes.now a.out.now a.arena.now a.g _
           c.commands_of-k.ensures rows n next _
           c.is_transaction-transaction.ensures
           (sym c.any_late.ensures ∙ c.if-any_late.false)
           (sym (laws.room_says a.out.now a.arena.now a.g _ (commands_of a.bytes.now _) _ _ _ c.wrap_len.ensures
-          c.spend-room.ensures c.send_room-rest.ensures rows o) ∙ c.if-rest.true),
+          c.spend-room.ensures c.send_room.ensures rows o) ∙ ap (λ (r : Option ℕ). is_none r) c.in_err-send_room.was),
       tt,
     )
 
@@ -60,7 +62,7 @@ write_pipeline-requires c =
       w.0,
       laws.room_fits a.out.now a.arena.now a.g _
           (commands_of a.bytes.now _) _ _ _ c.wrap_len.ensures c.spend-room.ensures
-          c.send_room-rest.ensures c.if-rest.false,
+          c.send_room.ensures (ap (λ (r : Option ℕ). is_none r) c.in_ok-send_room.was),
       w.3,
     )
 
@@ -76,10 +78,10 @@ returns c =
           ∙ c.if-any_late.false)
           (sym (laws.room_says a.out.now a.arena.now a.g _ (commands_of a.bytes.now _) _ _ _
           c.wrap_len.ensures c.spend-room.ensures
-          c.send_room-rest.ensures rows o) ∙ c.if-rest.false) _ _ (z rows o),
+          c.send_room.ensures rows o) ∙ ap (λ (r : Option ℕ). is_none r) c.in_ok-send_room.was) _ _ (z rows o),
       ends-within
           a.g a.arena.now 0 0 _ (commands_of a.bytes.now _) a.out.now
           (laws.room_fits a.out.now a.arena.now a.g _ (commands_of a.bytes.now _) _ _ _
           c.wrap_len.ensures c.spend-room.ensures
-          c.send_room-rest.ensures c.if-rest.false) w.0 _ _ z,
+          c.send_room.ensures (ap (λ (r : Option ℕ). is_none r) c.in_ok-send_room.was)) w.0 _ _ z,
     )

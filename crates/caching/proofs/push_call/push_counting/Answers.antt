@@ -8,5 +8,5 @@ pub returns : goal.returns
 returns c =
     let a = c.args in
     λ was next w.
-    added-as a.arena.now _ was w next _ c.none_yet.ensures (push_call a.size a.mode a.ttl a.bytes.now)
-    (λ lent h. push-more lent a.size a.mode a.ttl a.bytes.now h) _ (c.handle_push.ensures next) _ c.comes_to.ensures
+    added-as a.arena.now _ was w next _ c.none_yet.ensures (push_call a.cache_config.size a.cache_config.mode a.cache_config.ttl a.bytes.now)
+    (λ lent h. push-more lent a.cache_config.size a.cache_config.mode a.cache_config.ttl a.bytes.now h) _ (c.handle_push.ensures next) _ c.comes_to.ensures

@@ -1,0 +1,2 @@
+pub mod SimplePlaces
+pub mod LatePlaces
