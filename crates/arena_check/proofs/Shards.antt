@@ -1,16 +1,13 @@
 -- One pure law for each path of the code that checks a shard, and all shards. Assumes nothing.
-use mathlib.Core.Path.{◌≡◌, refl, sym, ap, subst, ◌∙◌}
-use Prim.Native.Nat.{ℕ, zero, suc, ◌+◌, ◌*◌, ◌-◌, ◌^◌, ◌≤◌, ◌<◌}
+use mathlib.Core.Path.{◌≡◌, sym, ap, ◌∙◌}
+use Prim.Native.Nat.{ℕ, suc, ◌+◌, ◌*◌, ◌-◌, ◌^◌, ◌≤◌, ◌<◌}
 use native.Mathlib.Omega.{arith}
 use native.Mathlib.Nat.{mul-le-mul_right}
-use mathlib.Core.Bool.{Bool, true, false, cond}
+use mathlib.Core.Bool.{Bool, true, false}
 use Rattle.std.specs.Prelude.{Option}
 use lib.ListN.{length, take, drop, length-drop}
 use lib.Seq.{take-length}
-use lib.Dec.{eqb}
-use borrow.Author.Tests.{le-leb, lt-leb, eqb-true, eqb-false}
-use native.Mathlib.Numerals.{add-one}
-use Rattle.buffer.specs.Cases.{by_test}
+use borrow.Author.Tests.{le-leb, lt-leb}
 use Rattle.buffer.specs.Same.{Bytes}
 use Rattle.buffer.specs.Field.{Octets, read32}
 use Rattle.buffer.specs.Part.{part}
@@ -61,26 +58,18 @@ module _ (is_value : Bytes → Bool) (home : Bytes → ℕ) (keys : ℕ) (s : By
 
 -- ---- all shards
 
-module _ (is_value : Bytes → Bool) (home : Bytes → ℕ) (keys bytes : ℕ) (s : Bytes) (i : ℕ) where
-  -- one that does not pass, among the first n
-  pub shards-bad : shard_ok is_value home keys (part s (i * bytes) bytes) i ≡ false → (n : ℕ) → i < n → shards_ok is_value home keys bytes s n ≡ false
-  unfolding shards_ok every
-  shards-bad e zero l = absurd (omega arith)
-  shards-bad e (suc n) l =
-      by_test (eqb i n)
-      (λ q. rw (subst (λ (j : ℕ). shard_ok is_value home keys (part s (j * bytes) bytes) j ≡ false) (eqb-true i n q) e))
-      (λ q.
-      rw (shards-bad e n (omega (arith, eqb-false i n q))) (none-passes (shard_ok is_value home keys (part s (n * bytes) bytes) n)))
-    where
-      none-passes : (b : Bool) → cond b (cond false true false) false ≡ false
-      none-passes true = refl
-      none-passes false = refl
+module _ (is_value : Bytes → Bool) (home : Bytes → ℕ) (keys bytes : ℕ) (s : Bytes) (i : ℕ) (h : 0 < i) where
+  last : (suc (i - 1) ≡ i)
+  last = omega arith
 
-  -- one that does, behind the others
-  pub shards-more : shard_ok is_value home keys (part s (i * bytes) bytes) i ≡ true → shards_ok is_value home keys bytes s i ≡ true
-      → shards_ok is_value home keys bytes s (i + 1) ≡ true
+  pub shards-bad : shard_ok is_value home keys (part s ((i - 1) * bytes) bytes) (i - 1) ≡ false → shards_ok is_value home keys bytes s i ≡ false
   unfolding shards_ok every
-  shards-more e w = ap (shards_ok is_value home keys bytes s) (add-one i) ∙ rw (e, w)
+  shards-bad e = ap (shards_ok is_value home keys bytes s) (sym last) ∙ rw e
+
+  pub shards-good : shard_ok is_value home keys (part s ((i - 1) * bytes) bytes) (i - 1) ≡ true
+      → shards_ok is_value home keys bytes s i ≡ shards_ok is_value home keys bytes s (i - 1)
+  unfolding shards_ok every
+  shards-good e = ap (shards_ok is_value home keys bytes s) (sym last) ∙ rw e (if-same (shards_ok is_value home keys bytes s (i - 1)))
 
 -- the shard's bytes, as they were lent
 pub shard-read : (is_value : Bytes → Bool) (home : Bytes → ℕ) (keys bytes : ℕ) (s : Bytes) (j : ℕ) (r : Bool)
@@ -125,6 +114,6 @@ module _ (shards keys bytes : ℕ) (s : Bytes) (b : Octets s) (h : 16 ≤ bytes)
   unfolding setup_of
   image-shards e = sym image-law ∙ arena-shards is_value (setup_of sip_hash13 shards keys bytes) s e
 
-pub shards-none : (home : Bytes → ℕ) (keys bytes : ℕ) (s : Bytes) → shards_ok is_value home keys bytes s 0 ≡ true
+pub shards-none : (home : Bytes → ℕ) (keys bytes i : ℕ) (s : Bytes) → i ≡ 0 → shards_ok is_value home keys bytes s i ≡ true
 unfolding shards_ok
-shards-none home keys bytes s = refl
+shards-none home keys bytes i s e = rw e

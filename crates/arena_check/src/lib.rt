@@ -452,7 +452,7 @@ pub fn is_image(arena: &[u8], shards: usize, keys: usize, bytes: usize) -> bool
     if !buffer::all_zero(arena, all, arena.len()) {
         return false;
     }
-    for i in 0..shards {
+    for i in (0..shards).rev() {
         let from = i * bytes;
         let to = from + bytes;
         if !shard_ok(&arena[from..to], shards, i, keys) {

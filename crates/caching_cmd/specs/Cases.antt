@@ -90,6 +90,15 @@ eight-last : resolved no_commands (ascii "*0\r\n") 3 (fresh_in 64) ≡ returning
 unfolding case-defs
 eight-last = refl
 
+-- the two by their numbers
+seven-number : (resolved no_commands (ascii "_\r\n") 2 (fresh_in 64)).cause ≡ 7
+unfolding case-defs
+seven-number = refl
+
+eight-number : (resolved no_commands (ascii "*0\r\n") 3 (fresh_in 64)).cause ≡ 8
+unfolding case-defs
+eight-number = refl
+
 -- none: the result, and the unwritten end unchanged
 none_at_all : resolved no_commands (ascii "*0\r\n") 5 (fresh_in 64) ≡ returning (answered_with 4 0) (ascii "*0\r\n" ++ (9 ∷ [])) (fresh_in 64)
 unfolding case-defs

@@ -117,12 +117,14 @@ pub fn any_late(bytes: &[u8], k: Commands, g: Settings, clock: u64) -> bool
     requires { CommandsHere bytes.now k }
     ensures { result ≡ plan.any_late g clock (commands_of bytes.now k) }
 {
-    let mut k = k;
-    while let Some((head, rest)) = cursor::next_command(bytes, k) {
+    let mut at = k.at;
+    // Where the next command stands is asked for only once this one was judged: a late one's arguments are not gone over.
+    for _ in 0..k.left {
+        let head = cursor::head_at(bytes, at);
         if is_late(bytes, head, g, clock) {
             return true;
         }
-        k = rest;
+        at = cursor::args_end(bytes, head.args);
     }
     false
 }

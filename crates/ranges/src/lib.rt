@@ -4,7 +4,7 @@
 #![tactic(auto)]
 
 ghost use Rattle.std.specs.Prelude.{◌≡◌, ◌+◌, ◌-◌, ◌≤◌, length};
-ghost use Rattle.buffer.specs.Move.{moved, resized, rotated};
+ghost use Rattle.buffer.specs.Move.{exchanged, moved, resized, rotated};
 
 // Copies the n bytes at `from` to `to`, right also where the two ranges overlap; nothing is done where they are one.
 #[tactic(auto, using(crate::proofs::Moves::pasted))]
@@ -42,6 +42,37 @@ fn carry(s: &mut [u8], from: usize, mid: usize, end: usize, kept: &mut [u8])
     buffer::copy_to(s, from, &kept[0..n]);
 }
 
+// Exchanges the n bytes at a with the n bytes at b, all of which are higher.
+fn exchange(s: &mut [u8], a: usize, b: usize, n: usize)
+    requires { (a + n ≤ b) × (b + n ≤ length s.old) }
+    ensures { s.new ≡ exchanged s.old a b n }
+{
+    let (front, back) = s.split_at_mut(b);
+    front[a..a + n].swap_with_slice(&mut back[..n]);
+}
+
+// What `rotate` does with long ranges. While neither fits into the room that std's `rotate_left` sets aside, the shorter one is exchanged with the far end of
+// the other, where it stays, and what is left is rotated: nothing where the lengths come out even, so that `rotate_left` has nothing to turn.
+fn rotate_long(s: &mut [u8], from: usize, mid: usize, end: usize)
+    requires { (from ≤ mid) × (mid ≤ end) × (end ≤ length s.old) }
+    ensures { s.new ≡ rotated s.old from mid end }
+{
+    let mut f = from;
+    let mut e = end;
+    while 4096 < (mid - f).min(e - mid) {
+        if mid - f <= e - mid {
+            let n = mid - f;
+            e -= n;
+            exchange(s, f, e, n);
+            continue;
+        }
+        let n = e - mid;
+        exchange(s, f, mid, n);
+        f += n;
+    }
+    s[f..e].rotate_left(mid - f);
+}
+
 // Brings the bytes from `mid` up to `end` before those from `from` up to `mid`.
 pub fn rotate(s: &mut [u8], from: usize, mid: usize, end: usize)
     requires { (from ≤ mid) × (mid ≤ end) × (end ≤ length s.old) }
@@ -51,7 +82,7 @@ pub fn rotate(s: &mut [u8], from: usize, mid: usize, end: usize)
         return;
     }
     if 1024 < end - mid {
-        s[from..end].rotate_left(mid - from);
+        rotate_long(s, from, mid, end);
         return;
     }
     let mut kept = [0u8; 1024];

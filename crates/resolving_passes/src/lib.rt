@@ -68,7 +68,7 @@ fn copy_element<'a>(plan: &'a [u8], list: &'a [u8], next: Next, out: &mut [u8], 
     ensures { (result ≡ at + length (element_bytes plan.now list.now next))
         × (out.new ≡ put out.old at (element_bytes plan.now list.now next)) }
 {
-    let part = resolving_step::element_part(plan, list, next);
+    let part = resolving_step::element_part(plan, list, Some(next));
     buffer::copy_to(out, at, part);
     at + part.len()
 }

@@ -52,6 +52,19 @@ element_start (Head n) = 0
 element_start (Keep m a e) = a
 element_start Pass = 0
 
+-- the same where there may be no step, whose reply is absent or of the wrong shape: nothing is handed out
+abbrev pub part_bytes : Bytes → Bytes → Option Next → Bytes
+part_bytes p s None = []
+part_bytes p s (Some n) = element_bytes p s n
+
+abbrev pub part_holder {ℓ} : {A : Type ℓ} → Option Next → A → A → A
+part_holder None p s = p
+part_holder (Some n) p s = holder_of n p s
+
+abbrev pub part_start : Option Next → ℕ
+part_start None = 0
+part_start (Some n) = element_start n
+
 -- the bytes of the answer
 abbrev pub next_bytes : Bytes → Bytes → Next → Bytes
 next_bytes p s (Plan a e) = part p a (e - a)

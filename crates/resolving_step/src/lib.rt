@@ -3,12 +3,12 @@
 // `list` is the list of replies: exactly one array. What is handed out is never copied: each element is a part of one of the two.
 #![tactic(auto)]
 
-ghost use Rattle.std.specs.Prelude.{◌≡◌, ◌+◌, ◌≤◌, min, length};
+ghost use Rattle.std.specs.Prelude.{◌≡◌, ◌+◌, ◌≤◌, min, length, IfSome};
 ghost use Rattle.resp3_element.specs.Meaning.{Inside};
 ghost use Rattle.plan.specs.Head.{HeadIn};
 ghost use Rattle.resolving.specs.Store.{expiry_of};
 ghost use Rattle.resolving_step.specs.Steps.{missed_of, Fetches, Placed, HandsOn, Readies, TakesSingle, TakesSeveral, Waits, Ends, OnNode, StepIs};
-ghost use Rattle.resolving_step.specs.Steps.{element_bytes, holder_of, element_start, NextIn};
+ghost use Rattle.resolving_step.specs.Steps.{part_bytes, part_holder, part_start, NextIn};
 
 use config::CacheMode;
 use plan::NodeHead;
@@ -48,7 +48,7 @@ impl From<NodeHead> for Missed {
 }
 
 // What comes next in the answer.
-// Kept: pairs of places are no plainer as `cursor::Range`: resolving stands on no crate of the call record, and would for this type alone.
+// Kept: pairs of places are no plainer as `cursor::Range`: this file names no crate of the call record, and would for this type alone.
 #[derive(Clone, Copy)]
 pub enum Next {
     // These bytes of the plan.
@@ -318,13 +318,16 @@ pub fn step_at(plan: &[u8], list: &[u8], c: Walk, mode: CacheMode, clock: u64) -
     on_node(list, behind, n, mode, clock)
 }
 
-// What a step hands out, where it stands: in one slice or the other.
-pub fn element_part<'a>(plan: &'a [u8], list: &'a [u8], next: Next) -> &'a [u8]
-    requires { NextIn plan.now list.now next }
-    ensures bytes { result.now ≡ element_bytes plan.now list.now next }
-    ensures place { (result.ref_ptr.0 ≡ holder_of next plan.entry.ref_ptr.0 list.entry.ref_ptr.0)
-        × (result.ref_ptr.1 ≡ element_start next + holder_of next plan.entry.ref_ptr.1 list.entry.ref_ptr.1) }
+// What a step hands out, where it stands: in one slice or the other. Where there is no step, since a reply is absent or of the wrong shape, nothing.
+pub fn element_part<'a>(plan: &'a [u8], list: &'a [u8], next: Option<Next>) -> &'a [u8]
+    requires { IfSome next (λ n. NextIn plan.now list.now n) }
+    ensures bytes { result.now ≡ part_bytes plan.now list.now next }
+    ensures place { (result.ref_ptr.0 ≡ part_holder next plan.entry.ref_ptr.0 list.entry.ref_ptr.0)
+        × (result.ref_ptr.1 ≡ part_start next + part_holder next plan.entry.ref_ptr.1 list.entry.ref_ptr.1) }
 {
+    let Some(next) = next else {
+        return &plan[..0];
+    };
     match next {
         Next::Plan(a, e) => &plan[a..e],
         Next::Reply(a, e) => &list[a..e],

@@ -7,7 +7,7 @@ use borrow.Author.Tests.{leb-true, leb-false, eqb-true, eqb-false}
 use Rattle.buffer.specs.Cases.{by_test}
 use Rattle.buffer.specs.Same.{Bytes}
 use Rattle.decimal.specs.Digits.{digits}
-use Rattle.decimal.specs.Read.{digit_b, crlf_b, lead, val_acc, ended_def, fin_def, num_def}
+use Rattle.decimal.specs.Read.{crlf_b, lead, val_acc, ended_def, fin_def, num_def}
 use Rattle.decimal.specs.ReadLaws.{fin-within, num-zero, num-more, num-bounds, lead-within}
 use Rattle.decimal.specs.NumSound.{num-sound}
 use Rattle.resp3_prefix.specs.declared.Count.{Count}

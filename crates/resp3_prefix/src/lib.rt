@@ -3,11 +3,11 @@
 // asks again from the value's start, and the passes over a value that comes in pieces are as many as the pieces.
 #![tactic(auto)]
 
-ghost use Rattle.std.specs.Prelude.{◌≡◌, ◌+◌, ◌≤◌, min, length};
+ghost use Rattle.std.specs.Prelude.{◌≡◌, ◌+◌, ◌≤◌, min, length, Ok, Err};
 ghost use Rattle.config.specs.Limits.{max_bytes};
 ghost use Rattle.resp3_prefix.specs.Begun.{lacking, lacking_row, lacking_below, crlf_begun, count_end, count_begun, line_begun, blob_begun};
 ghost use Rattle.resp3_prefix.specs.Begun.{string_begun, one_begun, verbatim_body, verbatim_digits, verbatim_begun, digits_of, minus_of};
-ghost use Rattle.resp3_prefix.specs.Begun.{integer_begun, boolean_begun, alone_of, row_of, kind_begun, null_begun, head_begun, value_begun, within, first_value};
+ghost use Rattle.resp3_prefix.specs.Begun.{integer_begun, boolean_begun, alone_of, row_of, kind_begun, null_begun, head_begun, begun_then, row_begun, within, first_value};
 
 use resp3::Kind;
 
@@ -378,26 +378,40 @@ fn head_begun(s: &[u8], at: usize, depth: usize) -> Result<(u64, usize), NotWhol
     }
 }
 
-// The value at `at`, nesting at most depth deep.
-fn value_begun(s: &[u8], at: usize, depth: usize) -> Result<usize, NotWhole>
-    requires { length s.now ≤ max_bytes }
-    ensures { result ≡ value_begun depth s.now at }
+// A value is not whole, and n others were to stand behind it.
+fn lacking_before(why: NotWhole, n: u64) -> Result<usize, NotWhole>
+    ensures { result ≡ begun_then (Err why) n (λ e. Ok e) }
 {
-    if depth == 0 {
-        return Err(NotWhole::Never);
+    match why {
+        NotWhole::Lacks(k) => lacking_row(k, n),
+        NotWhole::Never => Err(why),
     }
-    let (n, e) = head_begun(s, at, depth - 1)?;
-    let mut q = e;
+}
+
+// n values from `at` on, each nesting at most depth deep. Only a value with others inside it asks again, for those.
+fn values_begun(s: &[u8], at: usize, depth: usize, n: u64) -> Result<usize, NotWhole>
+    requires { length s.now ≤ max_bytes }
+    ensures { result ≡ row_begun depth s.now n at }
+{
+    let mut q = at;
     for left in (0..n).rev() {
-        match value_begun(s, q, depth - 1) {
-            Ok(x) => {
-                q = x;
+        if depth == 0 {
+            return Err(NotWhole::Never);
+        }
+        match head_begun(s, q, depth - 1) {
+            Ok((0, e)) => {
+                q = e;
             }
-            Err(NotWhole::Lacks(k)) => {
-                return lacking_row(k, left);
-            }
-            Err(NotWhole::Never) => {
-                return Err(NotWhole::Never);
+            Ok((m, e)) => match values_begun(s, e, depth - 1, m) {
+                Ok(x) => {
+                    q = x;
+                }
+                Err(why) => {
+                    return lacking_before(why, left);
+                }
+            },
+            Err(why) => {
+                return lacking_before(why, left);
             }
         }
     }
@@ -432,5 +446,5 @@ pub fn first_value(s: &[u8]) -> Result<usize, NotWhole>
 {
     let n = s.len();
     let end = n.min(config::MAX_BYTES);
-    within(n, value_begun(&s[..end], 0, config::MAX_DEPTH))
+    within(n, values_begun(&s[..end], 0, config::MAX_DEPTH, 1))
 }

@@ -17,6 +17,7 @@ use Rattle.planning.specs.Rules.{order-defs}
 use Rattle.plan.specs.Decode.{decode-defs}
 use Rattle.resolving_walk.specs.Commands.{value_at, place_at, values_at, places_at, commands_of, plan_read}
 use Rattle.resolving.specs.Result.{result_bytes}
+use Rattle.config.specs.Causes.{number}
 use Rattle.config.specs.declared.Cause.TheVariants.{ShortAnswer, BadPlan}
 use Rattle.served.specs.Served.{served_answers, served_from, buffer_from, served_of, buffer_of, served_call, served_buffer}
 
@@ -53,6 +54,10 @@ in-transaction = refl
 short-by-one : served_call (two_served 0) 18 ≡ Err ShortAnswer
 unfolding case-defs
 short-by-one = refl
+
+-- and so by its number
+short-number : number ShortAnswer ≡ 8
+short-number = refl
 
 -- a command whose reply is handed on needs replies, before 8
 pub hands_on : served_call (start 0 2 ++ (node 1 0 (ascii "_\r\n") 3 ++ node 0 0 [] 0)) 0 ≡ Ok None

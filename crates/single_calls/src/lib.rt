@@ -171,7 +171,8 @@ fn store_admitted(
     }
 }
 
-// Stores the value for the command key under the key, up to the expiry given. It neither takes nor changes the counts.
+// Stores the value for the command key under the key, up to the expiry given. It neither takes nor changes the counts. Where a cause refuses it, everything is
+// left as it was.
 pub fn store(
     arena: &mut [u8],
     cache_config: CacheConfig,

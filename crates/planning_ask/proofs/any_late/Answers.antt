@@ -1,34 +1,45 @@
 -- `planning_ask::any_late` meets its contract. Assumes nothing.
-use mathlib.Core.Path.{sym, ◌∙◌}
+use mathlib.Core.Path.{◌≡◌, refl, sym, ap, ◌∙◌}
+use Prim.Native.Nat.{ℕ, ◌+◌, ◌-◌}
 use native.Mathlib.Omega.{arith}
-use Rattle.cursor.specs.Steps.{CommandStepped, command-stepped}
-use Rattle.planning_ask.specs.Reaching as laws
+use Rattle.cursor.specs.At.{args_end, command_of}
+use Rattle.cursor.specs.Steps as steps
+use Rattle.cursor.specs.declared.Head.{Head}
+use Rattle.planning_ask.specs.Asked.{late}
+use Rattle.planning_ask.proofs.LatePlaces as laws
 use Rattle.planning_ask.proofs.any_late.Goals as goal
-use Rattle.planning_ask.proofs.any_late.Goals.{In-Some}
 
--- the command that comes
-this : (c : In-Some) → CommandStepped c.args.bytes.now c.loop-head.k c.in-Some.head c.in-Some.rest
-this c = command-stepped _ _ _ _ c.loop-head.invariant.0 (sym c.next_command.ensures ∙ c.in-Some.is)
+pub loop-init : goal.loop-init
+loop-init c =
+    let z : c.args.k.left - 0 ≡ c.args.k.left = omega arith in
+    rw z (c.requires, refl)
+
+pub head_at-head-requires : goal.head_at-head-requires
+head_at-head-requires c = (steps.commands-in _ _ _ _ (steps.one_more _ (λ z. omega arith)) c.loop.invariant.0).0
 
 pub is_late-requires : goal.is_late-requires
-is_late-requires c = (this (goal.at.is_late-requires c).In-Some).args
+is_late-requires c = rw c.head_at-head.ensures (steps.commands-in _ _ _ _ (steps.one_more _ (λ z. omega arith)) c.loop.invariant.0).1
 
 pub returns-then-is_late : goal.returns-then-is_late
 returns-then-is_late c =
-    let v = c.loop-head.invariant in
-    sym (v.1 ∙ laws.late-here _ _ _ _ v.0 _ _ (sym c.next_command.ensures ∙ c.in-Some.is) (sym c.is_late.ensures ∙ c.if-is_late.true))
+    let l : ℕ = c.args.k.left - c.loop.counter in
+    let m : ℕ = c.args.k.left - (c.loop.counter + 1) in
+    let h = ap (λ (x : Head). late c.args.g c.args.clock (command_of c.args.bytes.now x)) (sym c.head_at-head.ensures)
+    ∙ sym c.is_late.ensures ∙ c.if-is_late.true in
+    sym (c.loop.invariant.1 ∙ laws.late-here _ _ _ l m _ (omega arith) h)
 
-pub loop-head-smaller : goal.loop-head-smaller
-loop-head-smaller c = let n = (this (goal.at.loop-head-smaller c).In-Some).count in omega arith
+pub args_end-at-requires : goal.args_end-at-requires
+args_end-at-requires c = rw c.head_at-head.ensures (steps.commands-in _ _ _ _ (steps.one_more _ (λ z. omega arith)) c.loop.invariant.0).1
 
-pub loop-head-preserved : goal.loop-head-preserved
-loop-head-preserved c =
-    let v = c.loop-head.invariant in (
-      (this (goal.at.loop-head-preserved c).In-Some).here,
-      v.1 ∙ laws.late-later _ _ _ _ v.0 _ _ (sym c.next_command.ensures ∙ c.in-Some.is) (sym c.is_late.ensures ∙ c.if-is_late.false),
-    )
+pub loop-preserved : goal.loop-preserved
+loop-preserved c =
+    let l : ℕ = c.args.k.left - c.loop.counter in
+    let m : ℕ = c.args.k.left - (c.loop.counter + 1) in
+    let q : l ≡ m + 1 = omega arith in
+    let d = c.head_at-head.ensures in
+    let h = ap (λ (x : Head). late c.args.g c.args.clock (command_of c.args.bytes.now x)) (sym d) ∙ sym c.is_late.ensures ∙ c.if-is_late.false in
+    let e = c.args_end-at.ensures ∙ ap (λ (x : Head). args_end c.args.bytes.now x.args.left x.args.at) d in
+    rw e ((steps.commands-in _ l m _ q c.loop.invariant.0).2, c.loop.invariant.1 ∙ laws.late-later _ _ _ l m _ q h)
 
 pub returns : goal.returns
-returns c =
-    let v = c.loop-head.invariant in
-    sym (v.1 ∙ laws.late-none _ _ _ _ v.0 (sym c.next_command.ensures ∙ c.in_default.is))
+returns c = sym (c.loop.invariant.1 ∙ laws.late-none _ _ _ (c.args.k.left - c.loop.counter) 0 _ (omega arith))

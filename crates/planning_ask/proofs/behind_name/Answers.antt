@@ -1,2 +1,1 @@
 -- `planning_ask::behind_name` meets its contract. Assumes nothing.
-use Rattle.planning_ask.proofs.behind_name.Goals as goal
