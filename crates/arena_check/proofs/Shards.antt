@@ -1,13 +1,16 @@
 -- One pure law for each path of the code that checks a shard, and all shards. Assumes nothing.
-use mathlib.Core.Path.{◌≡◌, sym, ap, ◌∙◌}
-use Prim.Native.Nat.{ℕ, suc, ◌+◌, ◌*◌, ◌-◌, ◌^◌, ◌≤◌, ◌<◌}
+use mathlib.Core.Path.{◌≡◌, refl, sym, ap, subst, ◌∙◌}
+use Prim.Native.Nat.{ℕ, zero, suc, ◌+◌, ◌*◌, ◌-◌, ◌^◌, ◌≤◌, ◌<◌}
 use native.Mathlib.Omega.{arith}
 use native.Mathlib.Nat.{mul-le-mul_right}
-use mathlib.Core.Bool.{Bool, true, false}
+use mathlib.Core.Bool.{Bool, true, false, cond}
 use Rattle.std.specs.Prelude.{Option}
 use lib.ListN.{length, take, drop, length-drop}
 use lib.Seq.{take-length}
-use borrow.Author.Tests.{le-leb, lt-leb}
+use lib.Dec.{eqb}
+use borrow.Author.Tests.{le-leb, lt-leb, eqb-true, eqb-false}
+use native.Mathlib.Numerals.{add-one}
+use Rattle.buffer.specs.Cases.{by_test}
 use Rattle.buffer.specs.Same.{Bytes}
 use Rattle.buffer.specs.Field.{Octets, read32}
 use Rattle.buffer.specs.Part.{part}
@@ -58,13 +61,34 @@ module _ (is_value : Bytes → Bool) (home : Bytes → ℕ) (keys : ℕ) (s : By
 
 -- ---- all shards
 
+module _ (is_value : Bytes → Bool) (home : Bytes → ℕ) (keys bytes : ℕ) (s : Bytes) (i : ℕ) where
+  -- one that does not pass, among the first n
+  pub shards-bad : shard_ok is_value home keys (part s (i * bytes) bytes) i ≡ false → (n : ℕ) → i < n → shards_ok is_value home keys bytes s n ≡ false
+  unfolding shards_ok every
+  shards-bad e zero l = absurd (omega arith)
+  shards-bad e (suc n) l =
+      by_test (eqb i n)
+      (λ q. rw (subst (λ (j : ℕ). shard_ok is_value home keys (part s (j * bytes) bytes) j ≡ false) (eqb-true i n q) e))
+      (λ q.
+      rw (shards-bad e n (omega (arith, eqb-false i n q))) (none-passes (shard_ok is_value home keys (part s (n * bytes) bytes) n)))
+    where
+      none-passes : (b : Bool) → cond b (cond false true false) false ≡ false
+      none-passes true = refl
+      none-passes false = refl
+
+  -- one that does, behind the others
+  pub shards-more : shard_ok is_value home keys (part s (i * bytes) bytes) i ≡ true → shards_ok is_value home keys bytes s i ≡ true
+      → shards_ok is_value home keys bytes s (i + 1) ≡ true
+  unfolding shards_ok every
+  shards-more e w = ap (shards_ok is_value home keys bytes s) (add-one i) ∙ rw (e, w)
+
+-- the last of the first i
 module _ (is_value : Bytes → Bool) (home : Bytes → ℕ) (keys bytes : ℕ) (s : Bytes) (i : ℕ) (h : 0 < i) where
   last : (suc (i - 1) ≡ i)
   last = omega arith
 
-  pub shards-bad : shard_ok is_value home keys (part s ((i - 1) * bytes) bytes) (i - 1) ≡ false → shards_ok is_value home keys bytes s i ≡ false
-  unfolding shards_ok every
-  shards-bad e = ap (shards_ok is_value home keys bytes s) (sym last) ∙ rw e
+  pub last-bad : shard_ok is_value home keys (part s ((i - 1) * bytes) bytes) (i - 1) ≡ false → shards_ok is_value home keys bytes s i ≡ false
+  last-bad e = shards-bad is_value home keys bytes s (i - 1) e i (omega arith)
 
   pub shards-good : shard_ok is_value home keys (part s ((i - 1) * bytes) bytes) (i - 1) ≡ true
       → shards_ok is_value home keys bytes s i ≡ shards_ok is_value home keys bytes s (i - 1)

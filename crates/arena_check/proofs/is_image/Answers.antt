@@ -4,7 +4,7 @@ use Prim.Native.Nat.{◌*◌, ◌-◌}
 use native.Mathlib.Omega.{arith}
 use Rattle.resp3.specs.Ends.{is_value}
 use Rattle.arena_check.specs.Home.{home_in}
-use Rattle.arena_check.proofs.Shards.{rest_read, shards-bad, shards-good, shard-read, lent_length, within_all, image-rest, image-shards, shards-none}
+use Rattle.arena_check.proofs.Shards.{rest_read, last-bad, shards-good, shard-read, lent_length, within_all, image-rest, image-shards, shards-none}
 use Rattle.arena_check.proofs.is_image.Goals as goal
 
 pub returns-then-not-all_zero : goal.returns-then-not-all_zero
@@ -66,7 +66,7 @@ pub returns-then-not-shard_ok : goal.returns-then-not-shard_ok
 returns-then-not-shard_ok c =
     let a = c.args in
     let l = c.loop-i in
-    sym (l.invariant ∙ shards-bad is_value (home_in a.shards) a.keys a.bytes a.arena.now l.i (omega arith)
+    sym (l.invariant ∙ last-bad is_value (home_in a.shards) a.keys a.bytes a.arena.now l.i (omega arith)
     (shard-read is_value (home_in a.shards) a.keys a.bytes a.arena.now (l.i - 1) _ c.shard_ok.ensures
     ∙ c.if-not-shard_ok.true))
 
